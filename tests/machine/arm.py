@@ -6,7 +6,7 @@ from typing import Any
 
 import machine
 import terms as T
-from machine import (ON_VECTORS, ON_WORDS, Operand, Processor, chunks, image, invert, joined, lanewise, need_public,
+from machine import (ON_VECTORS, ON_WORDS, Operand, Processor, bitwise, chunks, image, joined, lanewise, need_public,
                      no_rule, number, picked, total)
 from terms import CannotShow, IsWrong
 
@@ -93,14 +93,12 @@ SETS_FLAGS = {"adds": ("add", "add"), "cmn": ("add", "add"), "subs": ("sub", "su
 ONLY_FLAGS = ("cmn", "cmp", "tst")
 
 
-def more(data: list) -> list:
-    return T.split(total(T.word(data), T.const(8 * len(data), 1)))
-
-
 # What instructions write if a condition holds, and if not, by the size and their operands.
 SELECTS: dict = {
-    "csel": lambda n, a, b: (a, b), "csinc": lambda n, a, b: (a, more(b)), "cinc": lambda n, a: (more(a), a),
-    "cinv": lambda n, a: (invert(a), a), "cset": lambda n: ([1], [0]), "csetm": lambda n: ([255] * n, [0] * n),
+    "csel": lambda n, a, b: (a, b), "csinc": lambda n, a, b: (a, T.split(total(T.word(b), T.const(8 * n, 1)))),
+    "cinc": lambda n, a: SELECTS["csinc"](n, a, a)[::-1],
+    "cinv": lambda n, a: (bitwise(T.xor, a, [255] * n), a),
+    "cset": lambda n: ([1], [0]), "csetm": lambda n: ([255] * n, [0] * n),
 }
 
 
@@ -225,10 +223,7 @@ class Arm(Processor):
             return "==" if i.name.endswith("bz") else "!=", t, T.const(t.w, 0)
         if i.name[2:] not in CONDITIONS or i.name[:2] != "b.":
             raise i.unknown()
-        self.need_public_flags()
-        if self.values.flags.kind == "ccmp":
-            return None
-        return self.compared(i.name[2:])
+        return None if self.values.flags.kind == "ccmp" else self.branched(i.name[2:])
 
     def step(self, i: Instruction) -> None:
         name, ops = i.name, i.operands

@@ -14,6 +14,7 @@ from functools import partial
 from typing import Any, Callable, Iterator
 
 import call_specification as S
+import compression
 import constant_time
 import facts
 import loops
@@ -115,8 +116,7 @@ class Case:
             self.limits[name] = max(least, low), min(most, high)
 
     def require(self, conditions: list) -> None:
-        """Lets all of some conditions hold. Or, if the call is refused, one of them is the first that fails, by a
-        number below its bounds or above."""
+        """Lets all of some conditions hold. If the call is refused, one is the first that fails, below or above."""
         failing = [(k, way) for k, condition in enumerate(conditions) for way in beyond(*condition)]
         first = self.one_of(None, *failing * self.is_refused)
         k, *way = first or (len(conditions),)
@@ -161,7 +161,6 @@ class Case:
         self.arguments.append(address)
 
     def pass_struct(self, name: str, data: list) -> None:
-        """A pointer to some bytes."""
         self.structs[name] = data
         self.add_argument(name, Cells(0, len(data), lambda k: data[k], name == "state"))
 
@@ -263,9 +262,8 @@ def beyond(numbers: tuple, low: int, high: int) -> list:
 
 
 class Cases:
-    """The cases of the exported functions of BLAKE2b or BLAKE2s in a file. The method of an export fills a case, and
-    returns a function: the result that is expected, the state and the output, by the operations of
-    call_specification.py."""
+    """The cases of the exports of BLAKE2b or BLAKE2s in a file. The method of an export fills a case, and returns a
+    function: the result that is expected, the state and the output, by the operations of call_specification.py."""
 
     spec: Any = S
     visit: Callable = staticmethod(lambda end: None)       # what is done with each end of a path
@@ -313,8 +311,7 @@ class Cases:
             return lambda a: (T.const(64, 0) if export in COUNTS else REFUSED, case.after, [])
 
     def show_case(self, export: str, choices: tuple) -> tuple:
-        """The case with these first choices, at each alignment of the stack that makes a difference, and the paths:
-        none, if there are no such calls."""
+        """The case with these first choices, at each alignment of the stack that matters, and its paths, or none."""
         waiting, paths = [(16, 8 if self.calls.program.kind == "x86_64" else 0)], 0
         while waiting:
             self.calls.forget()
@@ -326,7 +323,7 @@ class Cases:
             except Aligned as e:
                 waiting += [(e.need, k) for k in range(at[1], e.need, at[0])]
             except Unmeasured as e:
-                self.calls.measure(*e.args)
+                compression.show(self.calls.program, e.args[0], *self.calls.listed[e.args[0]])
                 waiting.append(at)
             except T.Refused as e:
                 where = " ".join(self.calls.at.text.split()) if self.calls.at else "the entry"
@@ -377,8 +374,7 @@ class Cases:
     # Messages.
 
     def amount(self, case: Case, pending: Any, ways: tuple = ()) -> tuple:
-        """The length of a message, by the bytes that are pending: few more, or fill + k blocks + t; and the update. If
-        the call is refused, it may have any."""
+        """The length of a message, by the pending bytes: few more, or fill + k blocks + t, or any; and the update."""
         kind, block = self.kind, self.kind.block
         if case.is_refused:
             return case.number("n"), None

@@ -10,12 +10,28 @@ lists of bytes too, the lowest first (2.4). `a.below(j, n, x, y)` is the byte x 
 
 from __future__ import annotations
 
-from typing import Any, Callable
+from types import SimpleNamespace
+from typing import Any, Callable, NamedTuple
 
 from rfc7693 import Kind
-from structs import Field, State, zeros_of
 from symbolic import Buffer
 from terms import Term
+
+
+class Field(NamedTuple):
+    """A field of a struct of vulfsjor.h: its bytes, and those of each element of an array, or 0 of a number."""
+
+    name: str
+    size: int
+    element: int = 0
+
+
+class State(SimpleNamespace):
+    """A state. Its numbers are terms or numbers, and its arrays lists of bytes."""
+
+    def but(self, **changes: Any) -> Any:
+        """The state with other values of some fields."""
+        return State(**{**vars(self), **changes})
 
 
 def fields(kind: Kind) -> tuple:
@@ -25,9 +41,9 @@ def fields(kind: Kind) -> tuple:
             Field("pending", kind.block, 1), Field("key", kind.w, 1))
 
 
-def zeros(kind: Kind) -> State:
+def zeros(kind: Kind, of: Callable = fields) -> State:
     """The wiped state, which is not ready."""
-    return zeros_of(fields(kind))
+    return State(**{f.name: [0] * f.size if f.element else 0 for f in of(kind)})
 
 
 # When a call is accepted. Each condition is (numbers, the least value of their sum, the largest); a call is accepted if
@@ -112,7 +128,7 @@ def init(a: Any, kind: Kind, output_size: Any, key: Buffer, key_size: Any, salt:
     """The inits but init_param. Under a key, a block of it is pending (2.9, 3.3)."""
     texts = padded(a, salt, salt_size, kind.w // 4) + padded(a, persona, persona_size, kind.w // 4)
     s = from_block(a, kind, parameter_block(a, kind, output_size, key_size, tree, texts), output_size)
-    if a.is_zero(key_size):
+    if a.holds("==", key_size, 0):
         return s
     pending = padded(a, key, key_size, kind.block)
     return s.but(pending_length=kind.block, start_length=kind.block, pending=pending, key=pending[:kind.w])
@@ -162,7 +178,7 @@ def digest(a: Any, kind: Kind, s: State) -> list:
     (3.3; the BLAKE2 document, 2.10)."""
     block = [a.below(j, s.pending_length, b, 0) for j, b in enumerate(s.pending)]
     count = a.plus(s.counter, s.pending_length)
-    return a.compress(kind, s.chain, block, count, 1, a.is_on(s.last_node))
+    return a.compress(kind, s.chain, block, count, 1, int(a.holds("!=", s.last_node, 0)))
 
 
 def final(a: Any, kind: Kind, s: State, out: Buffer) -> tuple:
@@ -193,4 +209,5 @@ def set_last_node(s: State, on: bool) -> State:
 
 def count(a: Any, s: State) -> Term | int:
     """What was absorbed since the start, without the key's block, and at least 0."""
-    return a.difference(a.plus(s.counter, s.pending_length), s.start_length)
+    absorbed = a.plus(s.counter, s.pending_length)
+    return 0 if a.holds("<", absorbed, s.start_length) else a.minus(absorbed, s.start_length)

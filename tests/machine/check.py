@@ -148,8 +148,7 @@ def scrub(path: str) -> str:
 
 
 def to_follow(path: str, part: str) -> list:
-    """The functions of some families of which it is not shown, with constant time, what their calls write, in as many
-    cases as of any."""
+    """The functions of some families of which not all that can be shown of whole calls is shown."""
     program = programs.read(path)
     whole = () if SOLVER else call_cases.names(program)
     is_whole = lambda family: path == ALL_OF_X or "x" not in family if is_long() else (
@@ -284,14 +283,13 @@ def table_of_forms(kind: str, paths: list) -> tuple:
 
 def all_files() -> tuple:
     """That no file is left out."""
-    found = {os.path.relpath(p, programs.ROOT) for each in READ for p in glob.glob(os.path.join(programs.ROOT, each))}
+    found = {path for each in READ for path in glob.glob(each, root_dir=programs.ROOT)}
     left_out = sorted(found ^ set(functions.FILES))
     return "not ok" if left_out else "ok", " ".join(left_out)
 
 
 def digests(path: str, entry: tuple, rng: random.Random) -> tuple:
-    """The digests of random messages of one block by the model of a function that compresses, over numbers, and those
-    of hashlib, with both values of the flag of the last node."""
+    """The digests of random messages of one block by the model of a function, over numbers, and those of hashlib."""
     name, kind, lanes = entry
     T.reset()
     size = rng.randrange(1, kind.block + 1)
@@ -333,13 +331,6 @@ def types() -> tuple:
     return "not ok" if run.returncode else "ok", run.stdout.strip().split("\n")[-1]
 
 
-def runs_instructions(path: str, user: str) -> bool:
-    """Whether the tests of instructions run those of a file for a user of forms.txt."""
-    if not is_long():
-        return (path, user) in SHORT_INSTRUCTIONS
-    return user == "W" or functions.architecture(path) != "wasm" and path not in constant_time.NOT_FOLLOWED
-
-
 def tests_of_the_tool() -> Iterator[Job]:
     """The jobs that test the tool itself, but those of one file."""
     few = lambda n, m: n if is_long() else m
@@ -378,8 +369,9 @@ def tests_of_a_file(path: str) -> Iterator[Job]:
     """The jobs that test the tool with one file: its instructions, whole functions, and changes that are refused."""
     job = lambda title, gone, show, *arguments: Job("%s: %s" % (path, title), gone, partial(show, *arguments))
     gone = missing(path)
+    follows = functions.architecture(path) != "wasm" and path not in constant_time.NOT_FOLLOWED
     for user in USERS:
-        if runs_instructions(path, user):
+        if (user == "W" or follows) if is_long() else (path, user) in SHORT_INSTRUCTIONS:
             yield job("the model of instructions %s agrees with the processor" % USERS[user],
                       missing_feature(path) or (SOLVER if user == "W" else None), instructions, path, user)
     for family in call_cases.TITLES if path in check_paths.TEXTS else ():
@@ -413,6 +405,7 @@ def run(job: Job) -> tuple:
     finally:
         T.reset()                      # so that there is little to look at
         gc.collect()
+        gc.freeze()                    # what stays, such as code, need not be looked at again
     return (found[0], title, found[1]) if isinstance(found, tuple) else ("ok", title, found)
 
 

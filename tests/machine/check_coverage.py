@@ -56,7 +56,7 @@ class Shape:
         self.limits: dict = {}         # inputs -> bounds
         equal = joined(self.parts(name, t) if t.op == "cat" or t.w != 64 else self.set(name, t)
                        for name, t in words_of(case, kinds))
-        claims = [c for f in case.known.before + (case.known,) if f.claim for c in f.claim(self.number, facts.either)]
+        claims = [c for f in case.known.path if f.claim for c in f.claim(self.number, facts.either)]
         claims += [facts.is_word(v, t.w) for t, v in self.names.items()]
         self.condition = facts.both(*(z3.BoolVal(c) if isinstance(c, bool) else c for c in equal + claims))
 
@@ -142,7 +142,7 @@ class Union:
         claims += [facts.both(low <= n, n <= high) for n, _ in [self.inputs[name]]] if name else []
         claims += [z3.Not(s.condition) for s in self.shapes if s.may_be(name, low, high) and s is not without]
         for seed in range(TRIES):
-            solver = z3.Solver()
+            solver = z3.SimpleSolver()
             solver.set("timeout", TIME)
             solver.set("random_seed", seed)
             solver.add(claims)
@@ -177,7 +177,7 @@ class Union:
 
     def needs(self, shape: Shape) -> bool:
         """Whether without a case they are not all calls, or the case is that of none."""
-        solver = z3.Solver()
+        solver = z3.SimpleSolver()
         solver.add(shape.condition, *[n <= most for n, most in self.inputs.values()])
         if solver.check() == z3.unsat:
             return True

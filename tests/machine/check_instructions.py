@@ -13,7 +13,7 @@ import re
 import struct
 import subprocess
 import tempfile
-from typing import Any, Iterator, NamedTuple, TYPE_CHECKING
+from typing import Any, Iterator, NamedTuple
 
 import call_cases
 import constant_time
@@ -22,12 +22,9 @@ import functions
 import terms as T
 import x86
 from machine import Cells, Flags
-from program import read, TOOLS
+from program import read, Program, TOOLS
 from symbolic import Exact, Undecided
 from taint import SECRET_BYTE, Taint, is_secret
-
-if TYPE_CHECKING:
-    from program import Program
 
 BUFFER = 4096                          # bytes on each side of the base of an access
 SPAN = (-BUFFER, BUFFER)
@@ -173,7 +170,7 @@ def hidden(rng: Any, size: int) -> set:
         range(MEMORY, SIZE) if rng.random() < 0.5 else ())
 
 
-def reached(program: "Program", waiting: list, left_out: list) -> list:
+def reached(program: Program, waiting: list, left_out: list) -> list:
     """The functions that some functions reach, except those that are left out."""
     found: set = set()
     while waiting:
@@ -188,11 +185,11 @@ def reached(program: "Program", waiting: list, left_out: list) -> list:
     return sorted(found)
 
 
-def compressing(program: "Program") -> list:
+def compressing(program: Program) -> list:
     return [functions.in_file(program.path, name) for name, _, _ in functions.FILES[program.path]]
 
 
-def executed(program: "Program", user: str) -> list:
+def executed(program: Program, user: str) -> list:
     """The functions that are executed for a user."""
     listed, scrubs = compressing(program), list(functions.scrubs(program))
     if user == "W":
@@ -202,9 +199,8 @@ def executed(program: "Program", user: str) -> list:
     return reached(program, names, listed + scrubs)
 
 
-def texts_by_form(program: "Program", user: str) -> dict:
-    """The instructions that are executed for a user, by their forms, except those that are part of whole functions
-    only."""
+def texts_by_form(program: Program, user: str) -> dict:
+    """The instructions that are executed for a user, by their forms, except those of CONTROL."""
     found: dict = {}
     for text in sorted({text for name in executed(program, user) for text in program.texts(name)}):
         f = forms.form(program.kind, text)
@@ -213,16 +209,15 @@ def texts_by_form(program: "Program", user: str) -> dict:
     return found
 
 
-def chosen(program: "Program", user: str, count: int, rng: Any, other: "Program | None" = None) -> tuple:
-    """The forms that are executed for a user, but not in another program, and up to `count` instructions of each, as
-    (text, base register)."""
+def chosen(program: Program, user: str, count: int, rng: Any, other: Program | None = None) -> tuple:
+    """The forms that only the first program has, and up to `count` instructions of each, as (text, base register)."""
     left_out = texts_by_form(other, user) if other else {}
     found = {f: {rewritten(program.kind, text) for text in texts}
              for f, texts in texts_by_form(program, user).items() if f not in left_out}
     return set(found), [t for f in sorted(found) for t in rng.sample(sorted(found[f]), min(count, len(found[f])))]
 
 
-def machine(program: "Program", user: str, text: str, base: int, data: bytes, places: set, odd: int = 0) -> tuple:
+def machine(program: Program, user: str, text: str, base: int, data: bytes, places: set, odd: int = 0) -> tuple:
     """The machine after the instructions of a text, in which bytes at some places are secret."""
     byte = lambda k: SECRET_BYTE if k in places else data[k]
     word = lambda at, n: [byte(k) for k in range(at, at + n)] if places else list(data[at:at + n])
@@ -248,7 +243,7 @@ def machine(program: "Program", user: str, text: str, base: int, data: bytes, pl
     return m, buf
 
 
-def places_of(program: "Program", m: Any, written: dict) -> Iterator:
+def places_of(program: Program, m: Any, written: dict) -> Iterator:
     """What a test compares of registers, and of what the model has written: places in a state, and bytes."""
     count, size = vectors_of(program.path)
     for j, r in enumerate(m.general[:31]):
@@ -267,9 +262,8 @@ def numbers(data: list) -> bytes | None:
         return None
 
 
-def difference(program: "Program", m: Any, buf: T.Term, before: list, after: list) -> str | None:
-    """What is called public and differs between the states after one or two runs, or is another number than in the
-    first, or None."""
+def difference(program: Program, m: Any, buf: T.Term, before: list, after: list) -> str | None:
+    """What is called public and differs between the states after, or is not the first's number, or None."""
     one = after[0]
     base = struct.unpack_from("<Q", one, LAST)[0]
     at_base = {buf: T.const(64, base)}
@@ -296,7 +290,7 @@ def difference(program: "Program", m: Any, buf: T.Term, before: list, after: lis
     return difference_of_flags(program, m, number_of, after)
 
 
-def difference_of_flags(program: "Program", m: Any, number_of: Any, after: list) -> str | None:
+def difference_of_flags(program: Program, m: Any, number_of: Any, after: list) -> str | None:
     """The same of the conditions that the flags say, and of the masks of AVX-512."""
     first, *others = [conditions(program.kind, state) for state in after]
     for name, holds in first.items():
@@ -328,8 +322,7 @@ def state(rng: Any, text: str, which: int | None) -> Any:
 
 
 def fit(kind: str, text: str, data: Any, rng: Any) -> None:
-    """Makes numbers such that an instruction does not fault: small indices, and a division whose quotient has
-    room."""
+    """Makes numbers such that an instruction does not fault: small indices, and a quotient that has room."""
     indices = re.findall(r"\[x\d+, x(\d+)", text) + [n for n in (12, 13) if "r15+r%d" % n in text]
     for j in map(int, indices):
         data[8 * j:8 * j + 8] = bytes([rng.randrange(64)] + [0] * 7)
@@ -357,8 +350,7 @@ def execute(kind: str, tests: list, vectors: tuple, states: Any) -> list:
 
 
 class Run(NamedTuple):
-    """A run of a test: its number, its state, or two of them, the places of secrets, and 1 if its memory is at an odd
-    address."""
+    """A run of a test: its number, one state or two, the places of secrets, and 1 if memory is at an odd address."""
 
     test: int
     states: list
@@ -371,9 +363,8 @@ class Run(NamedTuple):
             yield data[:LAST] + struct.pack("<Q", 2 * self.test + self.odd) + data[VECTORS:]
 
 
-def runs_of(program: "Program", user: str, tests: list, rounds: int, rng: Any) -> Iterator:
-    """The runs of each test. The first of one that reads or writes a vector is at an odd address, if the model lets
-    it."""
+def runs_of(program: Program, user: str, tests: list, rounds: int, rng: Any) -> Iterator:
+    """The runs of each test. The first of one with a vector in memory is at an odd address, if the model lets it."""
     for k, (text, base) in enumerate(tests):
         has_zero = user == "W" and text.startswith(OF_ZERO)
         for n in range(rounds + 6 * has_zero):
@@ -401,15 +392,14 @@ def accepts(*arguments: Any) -> bool:
     return True
 
 
-def are_known(program: "Program", m: Any, buf: T.Term) -> bool:
+def are_known(program: Program, m: Any, buf: T.Term) -> bool:
     """Whether the model has a number in each register, and in all that is written."""
     return all(numbers(data) is not None or all(isinstance(b, int) or T.variables(b[0]) == {buf} for b in data)
                for _, data in places_of(program, m, m.memory))
 
 
 def check(path: str, user: str, rounds: int, other: str = "") -> tuple:
-    """Whether the model agrees with the processor: a verdict, the numbers or what differs, and the forms that were
-    run. Those of another file are left out."""
+    """Whether the model agrees with the processor: a verdict, why, and the forms that were run, not in another file."""
     program, (seed, count, tenths) = read(path), USERS[user]
     rng = random.Random(seed)
     T.reset()

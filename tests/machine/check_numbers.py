@@ -149,8 +149,7 @@ class OfSecrets(Run):
         self.check()
 
     def meet(self) -> bool:
-        """Two paths meet, of which one was taken. The words that were there when others met are gone. Returns whether
-        both are possible."""
+        """Two paths meet, of which one was taken. Words of others that met are gone. Returns whether both may be."""
         m, rng = self.machine, self.rng
         self.numbers = {name: n for name, n in self.numbers.items() if not name.startswith("met ")}
         self.words = [t for t in self.words if all(u.args in self.numbers for u in T.variables(t))]
@@ -231,8 +230,7 @@ def check_secrets(count: int) -> tuple:
 
 
 def check_calls(seed: int, count: int) -> tuple:
-    """Whether at least so many comparisons are decided right: a verdict, and what was tried. A question that takes
-    long is open."""
+    """Whether so many comparisons are decided right: a verdict, and what was tried. A long question is open."""
     rng, decided, runs = random.Random(seed), 0, 0
     if len(set(Exact({}, x86.X86, (16, 0)).extended(fresh("secret", T.SECRET, 4), 8))) < 8:
         return "not ok", "all bytes of a secret with its sign are called the same"

@@ -214,7 +214,6 @@ class Ran(call_cases.Case):
         return not self.is_refused and any(key[k:k + WINDOW] in self.hostile.below for key in keys
                                            for k in range(len(key) - WINDOW + 1) if any(key[k:k + WINDOW]))
 
-
     def differs(self, name: str, expected: Callable) -> str | None:
         """What a function does otherwise than the specification says."""
         tag = self.memories.get("tag")
@@ -265,8 +264,7 @@ class Memories(call_cases.MemoryCases):
 
 
 def inputs(known: facts.Facts) -> Iterator:
-    """Some numbers for which all facts of a path hold: small ones, any, and each variable at its greatest, and at
-    its greatest below a limit."""
+    """Numbers for which all facts of a path hold: small ones, any, and each variable's greatest, also by a limit."""
     variables = [t for t in known.variables if "address" not in str(t.args) and "~" not in str(t.args)]
     limits = {t: BLOCKS if t.args == "K" else LIMIT for t in variables}
     small = lambda v: [facts.number(t) <= limits[t] for t in variables if t is not v]
@@ -280,9 +278,8 @@ def inputs(known: facts.Facts) -> Iterator:
 
 def named(model: Any) -> dict:
     """The numbers of a model, by the names of variables, or by those of buffers and the places of their bytes."""
-    names = {(n[0], n[1].args) if isinstance(n, tuple) else n: k for n, k in model.names().items()
-             if isinstance(n, str) or len(n) == 2 and n[1].op == "const"}
-    return names
+    return {(n[0], n[1].args) if isinstance(n, tuple) else n: k for n, k in model.items()
+            if isinstance(n, str) or len(n) == 2 and n[1].op == "const"}
 
 
 class Paths:
@@ -357,8 +354,7 @@ class Paths:
 
 
 def check(path: str, family: str, exports: list, *numbers: Any) -> tuple:
-    """Whether a text does what was proved of it, of some exports of a family or all, in some cases or with these
-    numbers: a verdict, and what was run."""
+    """Whether a text does what was proved of it, of some exports or all, in some cases: a verdict, and what was run."""
     program, paths, ran, left_out = programs.read(path), 0, 0, 0
     for export in exports or call_cases.exports(program, family):
         found = Paths(program, family, export, numbers or call_cases.some(family))

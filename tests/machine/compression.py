@@ -2,34 +2,27 @@
 
 import re
 import time
-from typing import Any, TYPE_CHECKING
+from typing import Any
 
 import rfc7693 as R
 import terms as T
 from facts import Facts
 from loops import Straight
-from machine import Cells, image, junk
+from machine import Cells, image, joined, junk
 from path_values import need_same
+from program import Program
 from symbolic import Exact, Undecided, fresh
 from terms import CannotShow, IsWrong
-
-if TYPE_CHECKING:
-    from program import Program
 
 STACK = 16384
 # How many bytes of the stack below its return address a function uses that is shown, by its content.
 FRAMES: dict = {}
 
 
-def bytes_of(words: list) -> list:
-    return [b for t in words for b in T.split(t)]
-
-
 class Call:
-    """A call of a function that compresses one block, or blocks of each of several messages: its variables, its
-    memory, and what it must return."""
+    """A call of a function that compresses blocks of each of some messages: its variables, memory, and result."""
 
-    def __init__(self, program: "Program", name: str, kind: R.Kind, lanes: int, assumed: dict,
+    def __init__(self, program: Program, name: str, kind: R.Kind, lanes: int, assumed: dict,
                  numbers: dict | None = None, known: Facts | None = None) -> None:
         """With numbers for the variables of these names, and some facts."""
         self.program, self.kind, self.assumed, self.lanes = program, kind, assumed, lanes
@@ -58,7 +51,7 @@ class Call:
     @staticmethod
     def rows(words: list) -> list:
         """The bytes of the chaining words of all messages in memory: the first word of each, the second, and so on."""
-        return bytes_of([message[k] for k in range(8) for message in words])
+        return joined(T.split(message[k]) for k in range(8) for message in words)
 
     def variable(self, w: int, name: str, taint: int) -> T.Term:
         return T.const(w, self.numbers[name]) if name in self.numbers else T.var(w, name, taint)
@@ -91,7 +84,7 @@ class Call:
     def table(self, name: str, words: list) -> T.Term:
         """A pointer to these words of 64 bits."""
         table = T.var(64, name, T.PUBLIC)
-        self.regions[self.pointer(table)] = Cells(0, 8 * len(words), bytes_of(words).__getitem__, False)
+        self.regions[self.pointer(table)] = Cells(0, 8 * len(words), joined(map(T.split, words)).__getitem__, False)
         return table
 
     def counters_and_flags(self) -> list:
@@ -114,7 +107,7 @@ class Call:
             self.regions.pop(self.pointer(p), None)
             if i is not None:
                 base = self.pointer(T.add(64, (1, p), (size, i)))
-                self.regions[base] = Cells(0, size, bytes_of(words).__getitem__, False)
+                self.regions[base] = Cells(0, size, joined(map(T.split, words)).__getitem__, False)
 
     def count(self) -> T.Term:
         """The number of blocks of each message."""
@@ -161,8 +154,7 @@ class StripesCall(Call):
     other, with the flags off. The counter is that before the first."""
 
     def arguments(self) -> list:
-        """The address of the stripes, the counter, and the number of stripes. The compiler has removed the number of
-        bytes, which the function does not use."""
+        """The address of the stripes, the counter and the number of stripes: the number of bytes is not used."""
         return [self.blocks[0], self.counter, self.count()]
 
     def buffers(self) -> list:
@@ -218,14 +210,8 @@ class Runner:
             if self.count > 200000:
                 raise CannotShow("there is no end after 200,000 instructions")
 
-    def check_all_reached(self, free: tuple) -> None:
-        """Refuses code that no path has reached, except no-ops."""
-        unseen = [i for i in self.code.values() if i.address not in self.visited and i.name not in free]
-        if unseen:
-            raise CannotShow("%d instructions were not reached, the first is %s" % (len(unseen), unseen[0].text))
 
-
-def show_one(program: "Program", name: str, kind: R.Kind, lanes: int, runner: Runner) -> None:
+def show_one(program: Program, name: str, kind: R.Kind, lanes: int, runner: Runner) -> None:
     """A function that compresses one block of each message. Each flag on which it branches is tried both ways."""
     waiting: list = [{}]
     while waiting:
@@ -249,7 +235,7 @@ class Loop(Straight):
 
     STILL = ()
 
-    def __init__(self, program: "Program", name: str, kind: R.Kind, lanes: int, runner: Runner) -> None:
+    def __init__(self, program: Program, name: str, kind: R.Kind, lanes: int, runner: Runner) -> None:
         jumps = [i for i in runner.code.values() if i.target is not None and i.target <= i.address]
         if len(jumps) != 1:
             raise CannotShow("the function has %d loops instead of one: if the compiler has split "
@@ -302,7 +288,7 @@ class Loop(Straight):
         return {c: data[k] for c, k in self.chain.items()}
 
 
-def show(program: "Program", name: str, kind: R.Kind, lanes: int) -> tuple:
+def show(program: Program, name: str, kind: R.Kind, lanes: int) -> tuple:
     """Proves the claim for a function, or raises Refused. Returns the runner, and the seconds."""
     T.reset()
     started = time.time()
@@ -312,7 +298,9 @@ def show(program: "Program", name: str, kind: R.Kind, lanes: int) -> tuple:
             show_one(program, name, kind, lanes, runner)
         else:
             Loop(program, name, kind, lanes, runner).show()
-        runner.check_all_reached(program.model.Model.FREE)
+        unseen = [i for i in runner.code.values() if i.address not in runner.visited and i.name not in runner.cpu.FREE]
+        if unseen:
+            raise CannotShow("%d instructions were not reached, the first is %s" % (len(unseen), unseen[0].text))
     except (T.Refused, Undecided) as e:
         at = " ".join(runner.at.text.split()) if runner.at else "the entry"
         raise (IsWrong if isinstance(e, IsWrong) else CannotShow)("at %s: %s" % (at, e))

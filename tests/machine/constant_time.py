@@ -5,17 +5,15 @@ import math
 import os
 import re
 from collections import Counter
-from typing import Any, Iterator, TYPE_CHECKING
+from typing import Any, Iterator
 
 import functions
 import program as programs
 import terms as T
 from machine import AFTER, SECRET, Aligned, Flags, image, joined, need_public, total
+from rfc7693 import Kind
 from taint import SECRET_BYTE, TOP, UNKNOWN_BYTE, Cells, Taint, is_secret
 from terms import CannotShow, IsWrong
-
-if TYPE_CHECKING:
-    from rfc7693 import Kind
 
 STACK = 65536
 ROUNDS = 20                            # of a loop, which are unrolled
@@ -57,8 +55,7 @@ NOT_SHOWN = {("dist/x86_64/vulfsjor-v3.s", "vulfsjor_ffi_blake2bp")}
 
 
 def layout(struct: str) -> list:
-    """The fields of a struct: the size of each, whether it is public, as numbers are, and arrays are not, and its
-    name."""
+    """The fields of a struct: the size of each, whether it is public, as numbers are, and its name."""
     fields: list = []
     for type_, name, counts in re.findall(r"(\w+) (\w+)((?:\[\d+\])*);", STRUCTS[struct]):
         bits = re.fullmatch(r"uint(\d+)_t", type_)
@@ -164,12 +161,8 @@ class Walk:
             return
         self.waiting.add(key)
 
-    def check(self, m: Any, first: int = 0) -> None:
-        """What a return must find, perhaps not the return address, which is the first of it."""
-        self.cpu(m).check_return(self.entry, first)
-
     def finish(self, m: Any, first: int = 0) -> None:
-        self.check(m, first)
+        self.cpu(m).check_return(self.entry, first)
         m.forget_below()
         if self.end is None:
             self.end = m
@@ -241,7 +234,7 @@ class Analysis:
             if pc in code:
                 walk.arrive(pc, n, i.address)
             else:
-                walk.check(n)
+                self.cpu(n).check_return(walk.entry)
                 self.call(n, i)
                 walk.finish(n, 1)
 
@@ -290,7 +283,7 @@ def rounds_at(m: Any, head: int, origin: int) -> tuple:
     return tuple(sorted(rounds.items()))
 
 
-def compress(m: Any, arguments: list, name: str, kind: "Kind", lanes: int) -> None:
+def compress(m: Any, arguments: list, name: str, kind: Kind, lanes: int) -> None:
     """A call of a function that compresses, of which compression.py shows what it does."""
     used, tables = arguments[:4], []
     if lanes == 1:
@@ -341,8 +334,7 @@ def show(program: programs.Program, name: str, kinds: tuple, family: str) -> Ana
 
 
 def follow(program: programs.Program, entry: tuple) -> Analysis | None:
-    """The same, or None for a function of NOT_SHOWN for which no bound is known. Refuses one that is shown after
-    all."""
+    """The same, or None for a function of NOT_SHOWN for which no bound is known, and which must not be shown."""
     name = entry[0]
     try:
         found = show(program, *entry)

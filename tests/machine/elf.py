@@ -36,8 +36,7 @@ class Elf:
                     is_hidden=other & 3 == HIDDEN, place=place))
 
     def places(self) -> list:
-        """The address, the section, the size and the name of each symbol that is in a section. That of a section has
-        its name."""
+        """The address, section, size and name of each symbol in a section. That of a section has its name."""
         named = [(s, self.sections[s.section].name) for s in self.symbols if UNDEFINED < s.section < len(self.sections)]
         return [(s.place[0], section, s.place[1], s.name or section) for s, section in named]
 
@@ -49,8 +48,7 @@ def text_at(data: bytes, at: int) -> str:
 
 @functools.lru_cache(maxsize=None)
 def macros(kind: str) -> tuple[dict[str, tuple[list[str], list[str]]], list[str]]:
-    """The parameters and the lines of each macro of a processor's texts, by its name, and the lines that are outside
-    of all macros."""
+    """The parameters and the lines of each macro of a processor's texts, by its name, and the lines outside of all."""
     with open(os.path.join(ROOT, "dist", kind, "elf.inc")) as f:
         text = f.read()
     macro = re.compile(r"^\.macro (\w+) ?(.*)\n((?:.*\n)*?)\.endm\n", re.M)

@@ -19,7 +19,9 @@ except ImportError:                    # check.py then skips whole calls
     z3 = None
 
 DEBIAN = "/usr/bin/python3"            # which has the packages of Debian, where another Python is in use
-EFFORT, TIME = 100000, 10000           # of Z3 for a question, in its own units and in milliseconds; then it is open
+# Of Z3 for a question, in its own units; then it is open. A limit of time needs a thread, and z3.Solver() a strategy,
+# which take longer than most questions.
+EFFORT = 100000
 RELATIONS: dict = {"==": operator.eq, "!=": operator.ne, "<": operator.lt, "<=": operator.le,
                    ">": operator.gt, ">=": operator.ge}
 
@@ -43,8 +45,7 @@ BASE: Any = z3.ArithRef if z3 else object
 
 
 class Integer(BASE):
-    """An integer of Z3. It does not look for the type of another operand, which takes longer than what Z3 does: that is
-    one too, or a number."""
+    """An integer of Z3. It does not look for another operand's type, which takes long: an integer, or a number."""
 
     __lt__, __le__, __gt__, __ge__, __eq__ = map(compares, ("lt", "le", "gt", "ge", "eq"))
     __ne__ = lambda a, b: made(z3.BoolRef, z3.Z3_mk_not, a == b)
@@ -97,9 +98,17 @@ def number(t: T.Term) -> Any:
 
 
 @T.remembering
+def definitions(t: T.Term) -> dict:
+    """What is so of the integers of a term and of all its parts, by these."""
+    inner, claim = definition(t) if t.op != "const" else ([], None)
+    found = {t: claim} if claim is not None else {}
+    for u in inner:
+        found.update(definitions(u))
+    return found
+
+
 def definition(t: T.Term) -> tuple:
-    """The parts of a term, and what is so of its integer and theirs, by the meaning of its operator. Of another
-    operator only the range is known."""
+    """The parts of a term, and what its operator says of its integer and theirs: of unknown ones, only the range."""
     a, inner = t.args, []
     n, in_range = variable("%s %d" % (t.op, t.serial), t.w)
     found = [in_range]
@@ -163,51 +172,49 @@ def run_with_z3(script: str, arguments: list) -> None:
         os.execv(DEBIAN, [DEBIAN, script] + arguments)
 
 
-class Model:
-    """Numbers of variables, for which Z3 says that some facts hold. Of a word, the number that follows from these."""
-
-    def __init__(self, found: Any, variables: Iterable) -> None:
-        self.found, self.terms = found, {t.args: t for t in variables}
-        self.known: dict = {}
-
-    def __getitem__(self, name: Any) -> int:
-        if name not in self.known:
-            self.known[name] = self.found.eval(number(self.terms[name]), model_completion=True).as_long()
-        return self.known[name]
+class Model(dict):
+    """Numbers of variables, by their names, for which some facts hold. Of a word, the number that follows."""
 
     def __call__(self, t: T.Term) -> int:
         return T.value(t, self, {})
 
-    def names(self) -> dict:
-        """The numbers of all variables."""
-        return {name: self[name] for name in self.terms}
-
     def shown(self) -> str:
-        found = sorted("%s = %#x" % pair for pair in self.names().items() if isinstance(pair[0], str))
+        found = sorted("%s = %#x" % pair for pair in self.items() if isinstance(pair[0], str))
         return ", ".join(found[:4]) + ", .." * (len(found) > 4) or "all inputs"
+
+
+@T.remembering
+def answered(_: frozenset) -> dict:
+    """What was asked about some facts, on any path: the numbers for which it holds, False or None."""
+    return {}
 
 
 class Facts:
     """A fact, and those before it on the path. Paths share what they have in common. `claim` returns the fact as a
     list of conditions of which all hold, by a function that has the number of each of some words, and one that is the
-    or of conditions."""
+    or of conditions. `name` is the same of facts that say the same."""
 
     solver: Any = None
-    asserted: list = []                # the facts that it has, in its order, and how much was defined before each
-    defined: dict = {}                 # the terms whose definitions it has, in its order
+    told: frozenset = frozenset()      # the names of the facts that it has
 
-    def __init__(self, claim: Callable | None = None, words: tuple = (), before: "Facts | None" = None) -> None:
-        self.claim, self.words = claim, words
-        self.before: tuple = before.before + (before,) if before else ()
+    def __init__(self, claim: Callable | None = None, words: tuple = (), before: "Facts | None" = None,
+                 *name: Any) -> None:
+        self.claim, self.words, self.name = claim, words, name
+        self.before: tuple = before.path if before else ()
         self.answers: dict = {}        # relation, word, word -> whether it follows
         self.ranges: dict = {}
         self.fixed: dict | None = None
         self.models: list = []         # numbers of the variables for which Z3 says that all hold
-        self.variables: frozenset = (before.variables if before else frozenset()).union(*map(T.variables, words))
+        self.own: frozenset = frozenset().union(*map(T.variables, words))      # the variables of the fact
+        self.variables: frozenset = self.own | before.variables if before else self.own
+
+    @property
+    def path(self) -> tuple:
+        return self.before + (self,)
 
     def plus(self, relation: str, a: T.Term, b: T.Term) -> "Facts":
         """With one more comparison that holds."""
-        after = Facts(lambda of, _: [compared(relation, of(a), of(b), a.w)], (a, b), self)
+        after = Facts(lambda of, _: [compared(relation, of(a), of(b), a.w)], (a, b), self, relation, a, b)
         after.answers[relation, a, b] = True
         if after.variables == self.variables:
             after.models = [m for m in self.models if compared(relation, m(a), m(b), a.w)]
@@ -224,68 +231,92 @@ class Facts:
             if any(k >> 63 for k in (constant, *items.values())):
                 raise T.CannotShow("%r may be less than 0" % t)
         of_all = lambda of: sum((k * of(u) for k, u in parts), known)
-        return Facts(lambda of, _: [low <= of_all(of), of_all(of) <= high], tuple(u for _, u in parts), self)
+        return Facts(lambda of, _: [low <= of_all(of), of_all(of) <= high], tuple(u for _, u in parts), self,
+                     *parts, low - known, high - known)
 
     def with_or(self, r: T.Term, a: T.Term, b: T.Term) -> "Facts":
         """With the bounds of an or of two words: it is no less than either, and no more than their sum."""
-        return Facts(lambda of, _: [of(r) >= of(a), of(r) >= of(b), of(r) <= of(a) + of(b)], (r, a, b), self)
+        return Facts(lambda of, _: [of(r) >= of(a), of(r) >= of(b), of(r) <= of(a) + of(b)], (r, a, b), self,
+                     "or", r, a, b)
 
     def apart(self, a: T.Term, n: T.Term, b: T.Term, m: T.Term) -> "Facts":
         """With the fact that n bytes from a on and m bytes from b on are apart."""
         x, y = (T.add(64, (1, p), (-1, q)) for p, q in ((a, b), (b, a)))
         claim = lambda of, either: [either(of(n) == 0, of(m) == 0, of(x) >= of(m)),
                                     either(of(n) == 0, of(m) == 0, of(y) >= of(n))]
-        return Facts(claim, (x, y, n, m), self)
+        return Facts(claim, (x, y, n, m), self, "apart", x, y, n, m)
 
     @classmethod
     def forget(cls) -> None:
         """Lets go of the solver."""
-        cls.solver, cls.asserted, cls.defined = None, [], {}
+        cls.solver = None
 
-    def ask(self, claims: Iterable = (), words: Iterable = ()) -> Any:
+    @functools.cached_property
+    def claims(self) -> list:
+        """The fact as Z3 has it."""
+        return list(self.claim(number, either)) if self.claim else []
+
+    def about(self, variables: frozenset) -> list:
+        """The facts by which some variables are related to others, and these to more. As long as the others are
+        possible, they say nothing of these."""
+        found: list = []
+        rest, near = list(self.path), [f for f in self.path if not f.own]
+        while near:
+            found, rest = found + near, [f for f in rest if f not in near]
+            variables = variables.union(*[f.own for f in near])
+            near = [f for f in rest if not f.own.isdisjoint(variables)]
+        return found
+
+    def ask(self, claims: Iterable = (), words: Iterable = (), question: tuple = ()) -> Any:
         """Numbers for which the facts and some claims about words hold, as a function, False if there are none, or
-        None if Z3 does not know, or is absent."""
+        None if Z3 does not know, or is absent. Claims that are a question, a relation and two words, are asked once.
+        Only facts about the words matter, and those for which no numbers are known yet: the others have theirs."""
         if not z3:
             return None
-        if Facts.solver is None:
-            Facts.solver = z3.Solver()
-            Facts.solver.set("rlimit", EFFORT)
-            Facts.solver.set("timeout", TIME)
-        wanted = self.before + (self,)
-        while self.asserted and self.asserted[-1][0] not in wanted:
-            self.pop()
-        for f in wanted[len(self.asserted):]:
-            self.push(f, f.claim(number, either) if f.claim else (), f.words)
-        self.push(None, claims, words)
-        answer = self.solver.check()
-        model: Any = False if answer == z3.unsat else None
+        path, words = self.path, question[1:] or tuple(words)
+        k = next((k for k in range(len(path), 0, -1) if path[k - 1].models), 0)
+        variables = frozenset().union(*[f.own for f in path[k:]], *map(T.variables, words))
+        facts = self.about(variables) if k else list(path)
+        names = frozenset(f.name for f in facts)
+        known = answered(names) if question else {}
+        if question not in known:
+            claims = [compared(question[0], number(words[0]), number(words[1]), words[0].w)] if question else claims
+            known[question] = self.solve(names, facts, claims, words)
+        numbers = known[question]
+        if not isinstance(numbers, dict):
+            return numbers
+        others = {t.args: path[k - 1].models[0][t.args] for t in path[k - 1].variables} if k else {}
+        self.models.append(Model({**others, **numbers}))
+        return self.models[-1]
+
+    @classmethod
+    def solve(cls, names: frozenset, facts: list, claims: Iterable, words: tuple) -> Any:
+        """Numbers of variables for which some facts and claims about words hold, by their names, False or None. The
+        solver keeps the facts, by their names, for the next question."""
+        if cls.solver is None:
+            cls.solver, cls.told = z3.SimpleSolver(), frozenset()
+            cls.solver.set("rlimit", EFFORT)
+            cls.solver.push()
+        if names != cls.told:
+            cls.solver.pop()
+            cls.told = names
+            cls.tell([c for f in facts for c in f.claims], [t for f in facts for t in f.words])
+        cls.tell(claims, words)
+        answer, numbers = cls.solver.check(), None
         if answer == z3.sat:
-            model = Model(self.solver.model(), self.variables.union(*map(T.variables, words)))
-            self.models.append(model)
-        self.pop()
-        return model
+            found = cls.solver.model()
+            numbers = {t.args: found.eval(number(t), model_completion=True).as_long()
+                       for t in frozenset().union(*[f.own for f in facts], *map(T.variables, words))}
+        cls.solver.pop()
+        return False if answer == z3.unsat else numbers
 
-    def push(self, f: "Facts | None", claims: Iterable, words: Iterable) -> None:
+    @classmethod
+    def tell(cls, claims: Iterable, words: Iterable) -> None:
         """Tells the solver some claims about words, and what these words are."""
-        self.solver.push()
-        self.asserted.append((f, len(self.defined)))
-        told, waiting = [], [t for t in words if t.op != "const"]
-        while waiting:
-            t = waiting.pop()
-            if t not in self.defined:
-                self.defined[t] = True
-                inner, claim = definition(t)
-                waiting += [u for u in inner if u.op != "const"]
-                told.append(claim)
-        for claim in [*told, *(z3.BoolVal(c) if isinstance(c, bool) else c for c in claims)]:
-            z3.Z3_solver_assert(self.solver.ctx.ref(), self.solver.solver, claim.as_ast())
-
-    def pop(self) -> None:
-        """Takes the last of these back."""
-        self.solver.pop()
-        _, defined = self.asserted.pop()
-        while len(self.defined) > defined:
-            self.defined.popitem()
+        cls.solver.push()
+        meant = {u: claim for t in words for u, claim in definitions(t).items()}
+        for claim in [*meant.values(), *(z3.BoolVal(c) if isinstance(c, bool) else c for c in claims)]:
+            z3.Z3_solver_assert(cls.solver.ctx.ref(), cls.solver.solver, claim.as_ast())
 
     def are_possible(self) -> bool:
         return bool(self.models) or self.ask() is not False
@@ -294,13 +325,12 @@ class Facts:
         """Whether it follows that two words are so related."""
         if a.op == b.op == "const":
             return compared(relation, a.args, b.args, a.w)
-        question = relation, a, b
+        question, other = (relation, a, b), OPPOSITE[relation]
         if question not in self.answers:
-            other = OPPOSITE[relation]
             known = T.variables(a) | T.variables(b) <= self.variables
             self.answers[question] = any(f.answers.get(question) for f in self.before) or not (
-                not z3 or known and any(compared(other, m(a), m(b), a.w) for m in self.models)
-                or self.ask([compared(other, number(a), number(b), a.w)], (a, b)) is not False)
+                known and any(compared(other, m(a), m(b), a.w) for m in self.models)
+                or self.ask(question=(other, a, b)) is not False)
         return self.answers[question]
 
     def decide(self, relation: str, a: T.Term, b: T.Term) -> bool | None:
@@ -311,16 +341,22 @@ class Facts:
         """Inputs of the call for which all facts hold and two words are not so related, as text, or None. Z3 proposes
         them; all is computed again, so they are inputs."""
         other = OPPOSITE[relation]
-        model = self.ask([compared(other, number(a), number(b), a.w)], (a, b))
-        is_example = model and all(isinstance(name, str) and "~" not in name for name in model.terms)
+        model = self.ask(question=(other, a, b))
+        is_example = model and all(isinstance(name, str) and "~" not in name for name in model)
         return model.shown() if is_example and compared(other, model(a), model(b), a.w) and all(
             self.holds_for(model)) else None
 
-    def holds_for(self, names: dict) -> Iterator:
-        """Whether each fact holds for these numbers of the variables."""
+    def holds_for(self, names: dict, changed: frozenset | None = None) -> Iterator:
+        """Whether each fact holds for these numbers of the variables, of which only some may have changed."""
         of = lambda t: T.value(t, names, {})
-        for f in self.before + (self,):
-            yield not f.claim or all(f.claim(of, lambda *conditions: any(conditions)))
+        for f in self.path:
+            if f.claim and (changed is None or not f.own.isdisjoint(changed)):
+                yield all(f.claim(of, lambda *conditions: any(conditions)))
+
+    def may_be_next(self, t: T.Term, model: Model) -> bool:
+        """Whether a variable may be one more or one less than in a model. Z3 need not be asked for that."""
+        return any(0 <= n < 1 << t.w and all(self.holds_for({**model, t.args: n}, frozenset([t])))
+                   for n in (model[t.args] + 1, model[t.args] - 1))
 
     def small(self, limit: int | None) -> Any:
         """A model in which variables that are not addresses are below a limit, or None."""
@@ -332,42 +368,54 @@ class Facts:
         if t.op == "const":
             return t.args, t.args
         if t not in self.ranges:
-            top, n = (1 << t.w) - 1, lambda k: T.const(t.w, k)
             self.are_possible()        # which may find numbers
-            known = [m(t) for m in self.models if T.variables(t) <= self.variables]
-            self.ranges[t] = (least(lambda k: not self.imply(">", t, n(k)), min(known, default=top)),
-                              least(lambda k: self.imply("<=", t, n(k)), top, max(known, default=0)))
+            known, top = answered(frozenset(f.name for f in self.about(T.variables(t)))), (1 << t.w) - 1
+            if t not in known:
+                numbers = lambda: [m(t) for m in self.models if T.variables(t) <= self.variables]
+                is_so = lambda relation, k: self.imply(relation, t, T.const(t.w, k))
+                known[t] = (-least(lambda k: is_so(">=", -k), 0, lambda: -min(numbers(), default=top)),
+                            least(lambda k: is_so("<=", k), top, lambda: max(numbers(), default=0)))
+            self.ranges[t] = known[t]
         return self.ranges[t]
 
     def values(self) -> dict:
         """The variables of which the value is known."""
         if self.fixed is None:
-            self.fixed = dict(next((f.fixed for f in self.before[::-1] if f.fixed), {}))
-            rest = self.variables - set(self.fixed)
-            model: Any = self.models[0] if self.models else self.ask()
-            found = {t: model(t) for t in rest} if model else {}
-            while found:               # until no other value of one of them is possible
-                found = {t: n for t, n in found.items() if all(m(t) == n for m in self.models)}
-                model = self.ask([either(*(number(t) != n for t, n in found.items()))], found)
-                if model is False:
-                    break
-                found = found if model else {}
-            self.fixed.update({t: T.const(t.w, n) for t, n in found.items()})
+            before = next((f for f in self.before[::-1] if f.fixed is not None), None)
+            self.fixed = dict(before.fixed) if before else {}
+            new = self.path[len(before.path):] if before else self.path
+            near = self.about(frozenset().union(*[f.own for f in new]))
+            known = answered(frozenset(f.name for f in near))
+            if "values" not in known:
+                known["values"] = self.values_of(frozenset().union(*[f.own for f in near]))
+            self.fixed.update(known["values"])
         return self.fixed
 
+    def values_of(self, variables: frozenset) -> dict:
+        """Those of some variables of which the value is known."""
+        model: Any = self.models[0] if self.models else self.ask()
+        found = {t: model(t) for t in variables if not self.may_be_next(t, model)} if model else {}
+        while found:                   # until no other value of one of them is possible
+            found = {t: n for t, n in found.items() if all(m(t) == n for m in self.models)}
+            model = self.ask([either(*(number(t) != n for t, n in found.items()))], found)
+            if model is False:
+                break
+            found = found if model else {}
+        return {t: T.const(t.w, n) for t, n in found.items()}
 
-def least(f: Callable, top: int, low: int = 0) -> int:
-    """The least number from `low` up to `top` from which on f holds."""
-    if low == top or not f(top - 1):
+
+def least(f: Callable, top: int, reached: Callable) -> int:
+    """The least number up to `top` from which on f holds. It is no less than reached(), which may grow."""
+    if reached() >= top or not f(top - 1):
         return top
-    if f(low):
-        return low
-    high = low
-    while not f(high):
-        low, high = high + 1, min((high + 2) ** 2 - 1, top)
+    low, gap = reached(), 0
+    while not f(low + gap):
+        low = max(low + gap + 1, reached())
+        gap = min(gap * gap + 3, top - low)
+    high = low + gap
     while low < high:
         middle = (low + high) // 2
-        low, high = (low, middle) if f(middle) else (middle + 1, high)
+        low, high = (low, middle) if f(middle) else (max(middle + 1, reached()), high)
     return low
 
 

@@ -32,8 +32,7 @@ def content(path: str) -> str:
 
 def surroundings() -> str:
     """The hash of what all verdicts depend on."""
-    names = {part: sorted(os.path.relpath(p, ROOT) for each in part for p in glob.glob(os.path.join(ROOT, each)))
-             for part in (FILES, NAMES)}
+    names = {part: sorted(p for each in part for p in glob.glob(each, root_dir=ROOT)) for part in (FILES, NAMES)}
     found: list[Any] = [names[NAMES], [(name, content(name)) for name in names[FILES]], sys.version, platform.machine()]
     for path in [os.path.realpath(str(p)) for p in map(shutil.which, TOOLS) if p]:
         found.append((path, os.stat(path).st_size, os.stat(path).st_mtime_ns))

@@ -46,11 +46,10 @@ class Induction:
 
     def changed(self, cells: dict) -> set:
         """The bytes that are not as at first."""
-        return {c for c in {**self.first, **cells} if self.at(cells, c) != self.at(self.first, c)}
+        return {c for c, _ in self.first.items() ^ cells.items() if self.at(cells, c) != self.at(self.first, c)}
 
     def propose(self, changed: set, step: Callable) -> set:
-        """Proposes that public words grow, by step(word at first, its bytes), unless that is None. Returns the bytes
-        that change otherwise."""
+        """Proposes that public words grow, by step(word at first, its bytes) if any. Returns what else changes."""
         for group in {self.group(*c) for c in {(kind, at, k - k % 4) for kind, at, k in changed}}:
             a = self.word(self.first, group)
             n = None if a.taint & ~T.PUBLIC or group[0][0] in self.STILL else step(a, group)
@@ -90,7 +89,7 @@ class Induction:
 
     def wrong(self, found: dict, wanted: dict, byte: Callable = lambda b: b) -> set:
         """The bytes after an iteration that are not as the next one starts. byte(b) is a byte as it is compared."""
-        return {c for c in (set(found) | set(wanted)) - self.rest
+        return {c for c in {c for c, _ in found.items() ^ wanted.items()} - self.rest
                 if byte(self.at(found, c)) != byte(self.at(wanted, c))}
 
 
@@ -138,33 +137,27 @@ def compared_bytes(b: Any) -> tuple:
 class Differences(Straight):
     """A loop that compares. The first iteration also proposes which bytes collect differences."""
 
-    collects: dict
-
     def show(self) -> Any:
         """The machine after the loop."""
         second, left = self.iterate(self.start.copy())
-        self.propose_all(second.cells())
-        i, wrong = self.start.new(64), {None}
+        cells, i, wrong = second.cells(), self.start.new(64), {None}
+        rest = self.propose(self.changed(cells), self.constant_step(cells))
+        self.collects = {c: fresh("so far", T.SECRET)[0] for c in rest
+                         if members_of(self.first[c]) < members_of(cells[c])}
+        self.rest = rest - set(self.collects)
         while wrong:                   # what only has differences in it does not collect them
             after, then = self.iterate_at(self.machine(i, self.collects), i, left)
             wrong = {c for c, b in self.collects.items() if b not in members_of(after.cells()[c])}
             self.rest |= wrong
             self.collects = {c: b for c, b in self.collects.items() if c not in wrong}
-        step, others = self.check(second.cells(), after, i)
+        step, others = self.check(cells, after, i)
         count = self.count(left, then, i)
         differ = lambda offset: (T.var(8, ("differ", offset, step, count), T.SECRET), 0)
         found = {c: functools.reduce(any_of, map(differ, offsets), self.first[c]) for c, offsets in others.items()}
         return self.ended(self.machine(count, found), [second, after])
 
-    def propose_all(self, second: dict) -> None:
-        rest = self.propose(self.changed(second), self.constant_step(second))
-        self.collects = {c: fresh("so far", T.SECRET)[0] for c in rest
-                         if members_of(self.first[c]) < members_of(second[c])}
-        self.rest = rest - set(self.collects)
-
     def iterate_at(self, m: Any, i: T.Term, left: T.Term) -> tuple:
-        """An iteration, which is no later than the last: what is left grows or shrinks to 0 by one number in each. It
-        is tried with each that a loop may have."""
+        """An iteration, not after the last. What is left goes to 0 by one number in each, of those tried here."""
         self.unit, self.sign = next(((unit, sign) for unit in (128, 32, 8, 4, 1) for sign in (1, -1)
                                      if self.quotient(left, unit, sign) is not None), (0, 0))
         if not self.unit:
@@ -235,8 +228,7 @@ def need_all(m: Any, byte: Any, n: T.Term) -> None:
 
 
 def cycle(code: dict, head: int) -> frozenset:
-    """The addresses of a function's code that are reached from the head of a loop, and from which it is reached
-    again."""
+    """The addresses of a function's code that are reached from the head of a loop and back."""
     ways: set = set()
     for i in code.values():
         is_inner = i.target is None or i.is_call
@@ -327,8 +319,7 @@ class Reads(Induction):
         return self.calls.run(self.name, machine, self.head, self.body)
 
     def propose_all(self, ends: list) -> None:
-        """The words that grow or shrink as the position grows, the rest of what changes, and what the C library may
-        have left of that."""
+        """The words that grow or shrink with the position, what else changes, and what the C library left of it."""
         found = [(n, n.cells()) for n in ends]
         moved = lambda n, cells, group: n.settled(
             T.add(64, (1, self.word(cells, group)), (-1, self.word(self.first, group))))

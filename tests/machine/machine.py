@@ -6,8 +6,6 @@ from typing import Any, Callable, Iterable, NamedTuple
 import terms as T
 from terms import CannotShow, IsWrong, signed
 
-# Operations on words, by the names of those on vectors.
-WORDWISE: dict = {"xor": T.xor, "or": T.either, "and": T.both}
 # What instructions make of two words; the values may know more than the words say.
 ON_WORDS: dict = {
     "add": lambda m, a, b: total(a, b), "sub": lambda m, a, b: total(a, b, -1), "and": lambda m, a, b: m.masked(a, b),
@@ -33,20 +31,15 @@ def image() -> T.Term:
 
 class Cells:
     """Memory from `low` to `high`. `initial` returns the byte at an offset. Its base is the second number of
-    `alignment` modulo the first. If it is uniform, offsets don't matter, and what is written to it is secret
-    already."""
+    `alignment` modulo the first. If it is uniform, offsets don't matter, and it has secrets already."""
 
     table: Any = None                  # of a table of messages: what returns an entry's bytes
     arrays: list = []                  # the places of a struct's arrays, as ranges
 
     def __init__(self, low: int, high: int, initial: Callable, writable: bool = True, alignment: tuple = (8, 0),
                  uniform: bool = False) -> None:
-        self.low, self.high, self.initial = low, high, initial
+        self.low, self.high, self.length, self.initial = low, high, T.const(64, high - low), initial
         self.writable, self.alignment, self.uniform = writable, alignment, uniform
-
-    @property
-    def length(self) -> T.Term:
-        return T.const(64, self.high - self.low)
 
 
 class Operand:
@@ -86,8 +79,7 @@ class Instruction:
 
 
 class Flags(NamedTuple):
-    """What set the flags: a kind of operation, two words and their result. Of secrets there is only the result, if it
-    is known."""
+    """What set the flags: a kind of operation, two words and their result; of secrets only the result, if known."""
 
     kind: str
     a: Any = None
@@ -112,9 +104,8 @@ class Aligned(CannotShow):
 
 
 class Values:
-    """The registers and the memory of a machine, and what is known of their values. A subclass says what that is.
-    x86.py, arm.py and wasm.py execute instructions over them. `alignment` is that of the stack: a power of two, and
-    the stack pointer modulo that."""
+    """The registers and the memory of a machine, and what is known of their values, which a subclass says. x86.py,
+    arm.py and wasm.py execute instructions over them. `alignment`: a power of two, and the stack pointer modulo it."""
 
     # All that a machine has, each with what becomes of it: by a call of a function that is not executed, and at the
     # head of any iteration of a loop. What grows there has more after an iteration, and loops.py joins or forgets it.
@@ -184,8 +175,8 @@ class Values:
 
     @staticmethod
     def unknown_masks() -> list:
-        """Those of AVX-512."""
-        return [unknown_bit() * 64] * 8
+        """Those of AVX-512, with a byte for each bit."""
+        return [junk("mask", 1) * 64] * 8
 
     def stack_pointer(self) -> T.Term:
         name, at = self.processor.STACK_POINTER
@@ -246,12 +237,8 @@ class Values:
             raise Aligned(low)
         return T.add(64, (1, address), (-1, T.const(64, (constant + self.alignment[1]) % low)))
 
-    def move_stack(self) -> None:
-        """The stack pointer has moved."""
-        self.forget_below()
-
     def forget_below(self) -> None:
-        """Forgets the stack below its pointer, where a signal and the next call may write."""
+        """Forgets the stack below its pointer, which may have moved: a signal and the next call may write there."""
         low = self.lowest()
         if not self.regions[self.stack].low <= low <= 0:
             raise IsWrong("the stack pointer leaves the stack")
@@ -367,8 +354,7 @@ class Processor:
         self.values.general[0] = data + self.answer()[len(data):]
 
     def clobber(self, what: str) -> None:
-        """What a function may leave in registers that do not belong to its caller. One that compresses leaves zero or
-        what there was where compression.py shows that."""
+        """Lets a function leave anything in registers that are not its caller's, or what compression.py shows."""
         m = self.values
         m.become(CALL, general=[old if r in self.SAVED + self.STACK_POINTER else m.lost(8, what)
                                 for r, old in enumerate(m.general)],
@@ -419,13 +405,15 @@ class Processor:
             top = getattr(values, name)[at]
             self.step(i)
             if getattr(values, name)[at] != top:
-                values.move_stack()
+                values.forget_below()
             return i.next
         return i.target if i.is_jump or self.values.holds(self.condition(i)) else i.next
 
-    def need_public_flags(self) -> None:
+    def branched(self, condition: str) -> tuple | None:
+        """What the condition of a branch compares, which must be public."""
         if self.values.flags.kind == SECRET:
             raise IsWrong("a branch depends on secret data")
+        return self.compared(condition)
 
     def compared(self, condition: str) -> tuple | None:
         """What a condition compares, as (relation, word, word), or None. Of secrets, only how."""
@@ -458,8 +446,7 @@ class Processor:
         """Refuses what a function may not leave in vector registers, besides those of at_entry()."""
 
     def check_return(self, entry: tuple, first: int = 0) -> None:
-        """Refuses a return with another address, stack pointer or register of the caller than at the entry, from the
-        first of these on."""
+        """Refuses a return with another address, stack pointer or register of the caller, from the first on."""
         parts, byte = ("return address", "stack pointer", "registers"), self.values.byte_normalizer()
         for what, found, wanted in [*zip(parts, self.at_entry(), entry)][first:]:
             if [byte(b) for b in found] != [byte(b) for b in wanted]:
@@ -483,11 +470,6 @@ def junk(name: str, n: int) -> list:
     sizes = [min(8, n - k) for k in range(0, n, 8)]
     return [(t, j) for k, size in enumerate(sizes) for t in [T.var(8 * size, "%s.%d" % (name, k), T.JUNK)]
             for j in range(size)]
-
-
-def unknown_bit() -> list:
-    """A byte of a mask, which has one for each bit, of which nothing is known."""
-    return junk("mask", 1)
 
 
 def chunks(data: Any, n: int) -> list:
@@ -532,11 +514,6 @@ def bitwise(f: Callable, a: list, b: list) -> list:
         return T.split(f(8 * len(a), x, y))
     half = len(a) // 2
     return bitwise(f, a[:half], b[:half]) + bitwise(f, a[half:], b[half:])
-
-
-def invert(data: list) -> list:
-    """The complement of each bit."""
-    return bitwise(T.xor, data, [255] * len(data))
 
 
 def total(a: T.Term, b: T.Term, sign: int = 1) -> T.Term:

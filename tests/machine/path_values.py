@@ -69,7 +69,7 @@ def difference(facts: Any, results: dict, x: T.Byte, y: T.Byte) -> str | None:
     for limit in (5, 1000, None):
         model = facts.small(limit)
         for seed in range(1, SEEDS + 1) if model else ():
-            numbers = Example(seed, model.names(), results)
+            numbers = Example(seed, model, results)
             try:
                 if all(facts.holds_for(numbers)) and numbers.byte(x) != numbers.byte(y):
                     return model.shown()

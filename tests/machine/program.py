@@ -71,9 +71,7 @@ def read(path: str) -> "Program":
     return read_once(path)
 
 
-@functools.lru_cache(maxsize=None)
-def read_once(path: str) -> "Program":
-    return Program(path)
+read_once: Callable = functools.lru_cache(maxsize=None)(lambda path: Program(path))
 
 
 def source(path: str) -> Any:
@@ -86,6 +84,7 @@ def source(path: str) -> Any:
 expanded = functools.lru_cache(maxsize=None)(elf.expanded)
 
 
+@functools.lru_cache(maxsize=None)
 def module_of(path: str) -> Any:
     """The module of a file. One of js/src has it in its text."""
     with open(os.path.join(ROOT, path), "rb") as f:
@@ -112,8 +111,7 @@ class Program:
         (self.read_module if self.kind == "wasm" else self.read_text)(edit)
 
     def read_module(self, edit: Callable) -> None:
-        """The functions of a module. One without names has those of the module that it was made from, function by
-        function."""
+        """The functions of a module. One without names has those of the module that it was made from, in order."""
         module = module_of(self.path)
         original = module if module.names else module_of(NAMED)
         names = original.names
@@ -149,8 +147,7 @@ class Program:
         self.functions = dict.fromkeys(without_version(s[3]) for s in self.symbols if s[1] == CODE != s[3])
 
     def lines(self, name: str) -> list:
-        """The lines of a function: of assembly those of objdump. Of a text that is not changed all are read at once,
-        and otherwise those that are asked for."""
+        """The lines of a function: of assembly those of objdump, once for all of a text that is not changed."""
         if self.functions[name] is None:
             start, end = self.extent(name)
             shown = self.disassembled() if self.is_original else self.disassembled(
@@ -224,8 +221,7 @@ class Program:
         return name
 
     def code(self, name: str, user: str | None = None) -> list:
-        """The instructions of a function. `user` is that of forms.txt, for whom they are executed: each must have a
-        form of the table."""
+        """The instructions of a function. Each must have a form of forms.txt for its user, if there is one."""
         if name not in self.functions:
             raise CannotShow("%s has no function %s: the compiler may have inlined it, or it has "
                              "another name now: see tests/machine/functions.py" % (self.path, name))
@@ -265,8 +261,7 @@ class Program:
         return found
 
     def content(self, name: str) -> str:
-        """The hash of all that executing a function depends on: its instructions, and where constants are from its
-        start on."""
+        """The hash of all that executing a function depends on: its instructions, and constants from its start on."""
         if name not in self.contents:
             found: tuple = self.kind, self.lines(name)
             if self.kind != "wasm":
@@ -295,8 +290,7 @@ class Program:
         return self.extents[name]
 
     def check_relocation(self, i: Any, line: str) -> None:
-        """Refuses a number that the linker fills in, except the address of a constant of the file, and of the
-        function that a call or a jump goes to."""
+        """Refuses a number that the linker fills in, except the address of a constant or of a called function."""
         at, kind, symbol, plus = found(r"([0-9a-f]+): (R_\w+)\t(.*?)([+-]0x[0-9a-f]+)?$", line).groups()
         symbols = [s for s in self.symbols if s[3] == symbol]
         if i.name in ("call", "bl", "b") or i.name.startswith("j"):

@@ -8,7 +8,7 @@ import terms as T
 from facts import RELATIONS, Facts
 from machine import (AFTER, AFTER_KEY, GROWS, KEPT, SECRET, Aligned, Cells, Flags, Values, bitwise, chunks, joined,
                      need_public, total)
-from taint import is_secret
+from taint import is_secret, unpadded as without_zeros
 from terms import OPPOSITE, CannotShow, IsWrong, signed
 
 KEYS = ("key.", "new~", "rest~", AFTER_KEY + "~")       # variables that may be bytes of a key
@@ -31,16 +31,12 @@ def fresh(what: str, taint: int, n: int = 1) -> list:
 
 
 def unpadded(machine: Any, n: T.Term) -> T.Term:
-    """A word, or the one of which it has the low bytes and zeros, if the path knows that they are the same; or a sum of
-    such words."""
+    """A word or a sum, by the words of which it has the low bytes and zeros, if the path knows them to be the same."""
     constant, parts = T.linear(n)
     if any(u is not n and u.op == "cat" for u in parts):
         return T.add(n.w, (1, T.const(n.w, constant)), *((k, unpadded(machine, u)) for u, k in parts.items()))
-    data = n.args if n.op == "cat" else ()
-    whole = data[0][0] if data and isinstance(data[0], tuple) else n
-    size = next((k for k, b in enumerate(data) if b != (whole, k)), len(data))
-    is_padded = size and whole.w == n.w and not any(data[size:])
-    return whole if is_padded and machine.path_facts.range(whole)[1] < 1 << 8 * size else n
+    whole, size = without_zeros(n)
+    return whole if whole is not n and whole.w == n.w and machine.path_facts.range(whole)[1] < 1 << 8 * size else n
 
 
 def below(machine: Any, j: int, n: T.Term, a: T.Byte, b: T.Byte) -> T.Byte:
@@ -85,8 +81,7 @@ def is_zero(t: Any) -> T.Byte:
 
 
 class Buffer:
-    """Memory of a caller whose length is a term. The byte at an offset is a variable that is named by the buffer and
-    the offset."""
+    """Memory of a caller whose length is a term. A byte is a variable, named by the buffer and the offset."""
 
     low, alignment = 0, (1, 0)
 
@@ -136,9 +131,9 @@ class Exact(Values):
         """Uses the stack down to a place."""
         self.deepest, self.is_scrubbed = min(self.deepest, low), False
 
-    def move_stack(self) -> None:
+    def forget_below(self) -> None:
         self.deepest = min(self.deepest, self.lowest())
-        super().move_stack()
+        super().forget_below()
 
     def compressed(self, frame: int) -> None:
         """A compression has used so many bytes of the stack, for secrets."""
@@ -210,12 +205,13 @@ class Exact(Values):
 
     def settled(self, t: T.Term) -> T.Term:
         """A word, in which variables of which the value is known are numbers."""
-        return T.substitute(t, self.path_facts.values(), {})
+        values = self.path_facts.values()
+        return T.substitute(t, values, {}) if values else t
 
     def byte_normalizer(self) -> Callable:
         values = self.path_facts.values()
         memo: dict = {}
-        return lambda b: b if isinstance(b, int) or b[0].taint != T.PUBLIC else T.split(
+        return lambda b: b if isinstance(b, int) or b[0].taint != T.PUBLIC or not values else T.split(
             T.substitute(b[0], values, memo))[b[1]]
 
     def settle(self) -> None:
@@ -409,6 +405,8 @@ class Exact(Values):
 
     def combined(self, name: str, x: list, y: list) -> list:
         """The bytes of a bitwise operation on vectors."""
+        if not any(x + y):             # such as those that settle reads
+            return x
         if name == "and":
             return joined(self.vector_of(lambda p, q: [T.and_byte(*p, *q)], *pair)
                           for pair in zip(chunks(x, 1), chunks(y, 1)))
@@ -434,16 +432,12 @@ class Exact(Values):
         if not isinstance(region, Cells) or at is None or not region.low <= at <= region.high - size:
             self.need_inside("the access of %d bytes at %r may be outside of its memory" % (size, address),
                              region, offset, T.const(64, size))
-        if aligned:
-            self.check_aligned(region, offset, size, address)
-        return base, offset, region
-
-    def check_aligned(self, region: Cells, offset: T.Term, size: int, address: T.Term) -> None:
-        (unit, start), at = region.alignment, base_of(offset)
-        if at is not None and unit % size and self.regions.get(self.stack) is region:
+        unit, start = region.alignment
+        if aligned and at is not None and unit % size and base is self.stack:
             raise Aligned(size)
-        if at is None or unit % size or (start + at) % size:
+        if aligned and (at is None or unit % size or (start + at) % size):
             raise IsWrong("%r may not be a multiple of %d" % (address, size))
+        return base, offset, region
 
     def region_of(self, address: T.Term) -> tuple:
         base, offset, region = super().region_of(address)
@@ -483,8 +477,7 @@ class Exact(Values):
     # Functions of the C library.
 
     def check_disjoint(self, what: str, to: T.Term, size: int, source: T.Term, length: int) -> None:
-        """Refuses a function that may write to bytes that it reads, of two places with at most so many bytes.
-        Arguments do not overlap."""
+        """Refuses a function that may write to what it reads, at two places. Arguments do not overlap."""
         (base, at, _), (other, start, _) = self.region_of(to), self.region_of(source)
         apart = T.add(64, (1, at), (-1, start))
         if base is other and size and length:
@@ -502,7 +495,7 @@ class Exact(Values):
             if high - low > 256 or base is self.stack and low < self.lowest():
                 raise CannotShow("a copy of %r bytes from %r" % (length, offset))
             data = self.bytes_at(base, range(low, high), region)
-            self.add_piece(self.written(to, length), data, length, total(offset, T.const(64, low), -1))
+            self.add_piece(self.region_inside(to, length, True), data, length, total(offset, T.const(64, low), -1))
         else:
             data = self.bytes_at(base, offsets(offset, self.most(length)), region)
             self.write_some(to, data, length)
@@ -514,7 +507,7 @@ class Exact(Values):
             if length.args:
                 self.store(to, [byte] * length.args)
             return
-        base, offset, region = self.written(to, length)
+        base, offset, region = self.region_inside(to, length, True)
         if isinstance(region, Buffer):
             self.add_piece((base, offset, region), byte, length)
         elif base_of(offset) is None:
@@ -540,20 +533,16 @@ class Exact(Values):
         """A least and a greatest number that an offset may be."""
         return [region.low + n for n in self.path_facts.range(total(offset, T.const(64, region.low), -1))]
 
-    def region_inside(self, address: T.Term, length: T.Term) -> tuple:
+    def region_inside(self, address: T.Term, length: T.Term, is_written: bool = False) -> tuple:
         """The base, the offset and the region of bytes, all of which must be in it."""
         base, offset, region = self.region_of(address)
         self.need_inside("%r bytes at %r may not all be in its memory" % (length, address), region, offset, length)
-        return base, offset, region
-
-    def written(self, to: T.Term, length: T.Term) -> tuple:
-        """The same of bytes that are written."""
-        base, offset, region = self.region_inside(to, length)
-        self.check_writable(region, to)
+        if is_written:
+            self.check_writable(region, address)
         return base, offset, region
 
     def write_some(self, to: T.Term, data: list, length: T.Term) -> None:
-        base, offset, region = self.written(to, length)
+        base, offset, region = self.region_inside(to, length, True)
         if base_of(offset) is None:
             self.add_piece((base, offset, region), data, length)
             return
@@ -587,7 +576,7 @@ def is_secret_byte(b: T.Byte) -> bool:
 
 def is_of_key(b: T.Byte) -> bool:
     """Whether a byte is by one of a key, or of its block in a state."""
-    return not isinstance(b, int) and is_secret_byte(b) and has_key(b[0])
+    return not isinstance(b, int) and bool(b[0].taint & T.SECRET) and has_key(b[0])
 
 
 @T.remembering

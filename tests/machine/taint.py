@@ -12,7 +12,7 @@ from math import gcd
 from typing import Any, Callable, Iterator
 
 import terms as T
-from machine import KEPT, SECRET, UNKNOWN, WORDWISE, Cells, Flags, Values, bitwise, joined, need_public, total
+from machine import KEPT, SECRET, UNKNOWN, Cells, Flags, Values, bitwise, joined, need_public, total
 from terms import OPPOSITE, CannotShow, IsWrong, signed
 
 TOP = 1 << 64
@@ -30,8 +30,7 @@ SECRET_WORD = [SECRET_BYTE] * 8
 
 
 def has_name(b: Any) -> Any:
-    """Whether a secret byte keeps its name: a bit, and what a register has at the entry, which the call must
-    restore."""
+    """Whether a secret byte keeps its name: a bit, and what a register has at the entry and must have again."""
     return b == SECRET_BIT or b[0].op == "var" and b[0].taint == T.JUNK
 
 
@@ -75,8 +74,7 @@ def parts(t: T.Term) -> tuple:
 
 
 def aligned(low: int, high: int, start: int, step: int) -> tuple:
-    """The least range that has all numbers between two that are a start plus multiples of a step, which is 0 if the
-    start is the only one."""
+    """The least range with all numbers between two that are a start plus multiples of a step; 0 has only the start."""
     if step < 2:
         return low, high, step
     return low + (start - low) % step, high - (high - start) % step, step
@@ -88,9 +86,8 @@ def merged_ranges(a: tuple, b: tuple) -> tuple:
 
 
 def in_both(a: tuple, b: tuple, w: int) -> tuple | None:
-    """A range that has the words of w bits that two ranges have in common, by the greater step. None if there are
-    none. If they meet at both ends, it is the smaller of both, or of two that have most words the one that begins
-    later."""
+    """A range that has the words of w bits that two ranges share, by the greater step. None if there are none. If they
+    meet at both ends, it is the smaller, or of two that have most words the one that begins later."""
     size = 1 << w
     shift = -((b[1] - a[0]) // size) * size          # the least with which b does not end before a
     if b[0] + shift > a[1]:
@@ -138,8 +135,7 @@ class Taint(Values):
         return [UNKNOWN_BYTE] * n
 
     def cleaned(self, data: list, is_word: bool, name: str = "") -> list:
-        """Bytes as they are kept: what depends on a secret is only secret. A word of which a byte is not known is a
-        new variable."""
+        """Bytes as they are kept: what depends on a secret is only secret. An unknown word is a new variable."""
         if data.count(SECRET_BYTE) == len(data):
             return data
         data = [b if b is SECRET_BYTE or not is_secret(b) or has_name(b) else SECRET_BYTE for b in data]
@@ -156,8 +152,7 @@ class Taint(Values):
     # Ranges.
 
     def new(self, w: int, what: str = "", limits: tuple | None = None) -> T.Term:
-        """A public variable of w bits, named by the place of the instruction, that stands for a new value from now
-        on."""
+        """A public variable of w bits, named by the place of the instruction, with a new value from now on."""
         is_known = T.has_var(w, self.where + what)
         x = T.var(w, self.where + what, T.PUBLIC)
         if is_known:                   # of another, nothing says anything
@@ -220,8 +215,7 @@ class Taint(Values):
         return bool(signs.pop()) if len(signs) == 1 else None
 
     def limit(self, t: T.Term, low: int, high: int, step: int = 1) -> bool:
-        """Learns that a term is between two numbers, and one of low, low + step and so on. Returns whether that may
-        be."""
+        """Learns that a term is low, low + step and so on up to high. Returns whether that may be."""
         constant, sign, rest = parts(t)
         bare = self.bare(rest)
         if bare.op not in ("var", "add") or rest in self.regions:
@@ -290,8 +284,7 @@ class Taint(Values):
             self.flags = old if old.kind in (UNKNOWN, SECRET) else self.flags._replace(kind="ccmp")
 
     def learn(self, relation: str, a: T.Term, b: T.Term, holds: bool) -> bool:
-        """Learns that a comparison holds or does not, and what made a byte that is now known to be 0 or not. Returns
-        whether that may be."""
+        """Learns that a comparison holds or not, and what made a byte that is now known. Returns whether it may be."""
         if not self.assume(relation if holds else OPPOSITE[relation], a, b):
             return False
         low, high = self.unsigned(a)
@@ -329,8 +322,7 @@ class Taint(Values):
         return data
 
     def relate(self, one: Any, other: Any, visits: int, *words: T.Term) -> None:
-        """Learns the range of a word that is another in each of two machines. After some visits, only one that does
-        not grow."""
+        """Learns the range of a word that is another in two machines; after some visits, only if it does not grow."""
         old = one.range_of(words[1])
         if old[1] - old[0] >= 1 << words[0].w - 1:
             return
@@ -406,7 +398,8 @@ class Taint(Values):
 
     def combined(self, name: str, x: list, y: list) -> list:
         """The bytes of a bitwise operation on vectors."""
-        return self.vector_of(lambda a, b: bitwise(WORDWISE[name], a, b), x, y)
+        functions: dict = {"xor": T.xor, "or": T.either, "and": T.both}
+        return self.vector_of(lambda a, b: bitwise(functions[name], a, b), x, y)
 
     def vector_of(self, f: Callable, *data: list) -> list:
         """The bytes of an operation on vectors: those of numbers, or of which each may depend on all."""
@@ -428,8 +421,7 @@ class Taint(Values):
     # Memory.
 
     def places(self, address: T.Term, length: T.Term) -> tuple:
-        """The base, the offsets of all bytes that so many at an address may be, and the region. If no bound is known,
-        they are in one block."""
+        """The base, the offsets of bytes that an access may reach, and the region. Without a bound, one block."""
         base, _, region = self.region_of(address)
         (low, _, step), (_, end, _) = (self.offset(t, base) for t in (address, total(address, length)))
         if base is self.stack and low < self.lowest():
@@ -497,8 +489,7 @@ class Taint(Values):
     # Paths that meet.
 
     def join(self, other: Any, place: str, visits: int, is_loop: bool = False) -> bool:
-        """Adds another path to this state. Returns whether anything changed. At the head of a loop, it learns how
-        words differ that the loop changes."""
+        """Adds another path to this state. Returns whether anything changed. A loop's head learns how words differ."""
         old, words = self.copy(), []
         self.where = place
         # What holds on both paths. A range that is missing is not known.
@@ -528,8 +519,7 @@ class Taint(Values):
                    for name in (*self.processor.FILES, "memory", "ranges", "facts", "flags"))
 
     def relate_all(self, old: Any, other: Any, visits: int, words: list) -> None:
-        """Learns how words that differ on two paths, given as they are after these and on each, differ from each
-        other and from words that were compared."""
+        """Learns how words, given after two paths met and on each, differ from each other and from bounds."""
         words = [[T.add(64, (1, t), *[(-1, base) for base in self.bases_of(three[0])]) for t in three]
                  for three in words]
         new = {x for t, _, _ in words for x in T.linear(t)[1] if x not in self.regions}

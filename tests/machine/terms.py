@@ -64,7 +64,7 @@ class Term:
 Byte = Union[int, Tuple[Term, int]]
 
 _table: dict = {}
-_memos: list = []                            # what functions of terms have returned, for each by its arguments
+_memos: list = []                            # functions of terms that remember what they have returned
 
 
 def _term(op: str, w: int, args: Any, taint: int) -> Term:
@@ -81,22 +81,15 @@ def reset() -> None:
     """Forgets all terms. Older terms must not be used with later ones."""
     for t in _table.values():          # which are in their own bytes
         t.bytes = None
-    for kept in (_table, *_memos):
-        kept.clear()
+    _table.clear()
+    for f in _memos:
+        f.cache_clear()
 
 
 def remembering(f: Callable) -> Callable:
-    """A function that computes its result once for the same arguments."""
-    memo: dict = {}
-    _memos.append(memo)
-
-    @functools.wraps(f)
-    def found(*arguments: Any) -> Any:
-        result = memo.get(arguments)
-        if result is None:
-            result = memo[arguments] = f(*arguments)
-        return result
-    return found
+    """A function that computes its result once for the same arguments, until all terms are forgotten."""
+    _memos.append(functools.lru_cache(maxsize=None)(f))
+    return _memos[-1]
 
 
 def show(t: Any, depth: int) -> str:
@@ -200,12 +193,8 @@ def add(w: int, *given: tuple) -> Term:
         return const(w, constant)
     if constant == 0 and len(items) == 1 and items[0][1] == 1:
         return items[0][0]
-    items.sort(key=_serial)
+    items.sort(key=lambda item: item[0].serial)
     return _term("add", w, (constant, tuple(items)), taint_of([u.taint for u, _ in items]))
-
-
-def _serial(item: tuple) -> int:
-    return item[0].serial
 
 
 def taint_of(taints: Iterable) -> int:

@@ -24,8 +24,7 @@ class Instruction(machine.Instruction):
 
 
 def parse(lines: list) -> list:
-    """The instructions of a function. A branch to a loop goes to the instruction after `loop`, and one to a block
-    goes to its `end`."""
+    """The instructions of a function. A branch to a loop goes behind `loop`, and one to a block to its `end`."""
     found = [Instruction(k, line) for k, line in enumerate(lines)]
     opened: list = []                  # the blocks, each with the branches to its end
     for i in found:
@@ -48,10 +47,6 @@ def signed_shift(w: int, t: T.Term, k: int) -> T.Term:
     return of_numbers(w, lambda n: (n >> k) - (n >> w - 1 << w - k), t)
 
 
-def select_bits(a: T.Term, b: T.Term, mask: T.Term) -> T.Term:
-    return of_numbers(a.w, lambda p, q, k: p & k | q & ~k, a, b, mask)
-
-
 def of_words(f: Callable) -> Callable:
     """The bytes of what f makes of words."""
     return lambda *data: T.split(f(*map(T.word, data)))
@@ -65,7 +60,8 @@ def pure_instructions() -> dict:
         "i8x16.shuffle": ("v128 v128", "v128", lambda a, b, *places: picked(1, places, a, b)),
         "v128.xor": ("v128 v128", "v128", lambda a, b: bitwise(T.xor, a, b)),
         "v128.or": ("v128 v128", "v128", lambda a, b: bitwise(T.either, a, b)),
-        "v128.bitselect": ("v128 v128 v128", "v128", lambda *data: lanewise(select_bits, 4, *data)),
+        "v128.bitselect": ("v128 v128 v128", "v128", lambda *data: lanewise(lambda *words: of_numbers(
+            32, lambda a, b, mask: a & mask | b & ~mask, *words), 4, *data)),
     }
     words: dict = {
         "add": total, "sub": lambda a, b: total(a, b, -1), "xor": lambda a, b: T.xor(a.w, a, b),

@@ -2,7 +2,7 @@
 and nothing else. F is a function of which nothing is known here, because compression.py shows what it computes.
 docs/MACHINE.md says what is shown."""
 
-from typing import Any, Callable, TYPE_CHECKING
+from typing import Any, Callable
 
 import compression
 import functions
@@ -10,13 +10,11 @@ import program as programs
 import terms as T
 from constant_time import OF_C, STACK
 from loops import MOST, Differences, Reads, Straight, cycle, no_output
-from machine import LEFT, SECRET, UNKNOWN, Flags, bitwise, chunks, image, joined, need_public
+from machine import LEFT, SECRET, UNKNOWN, Flags, bitwise, chunks, image, joined, need_public, total
+from rfc7693 import Kind
 from symbolic import Buffer, Cells, Exact, Undecided, any_of, below, fresh, is_zero, unpadded
 from terms import CannotShow, IsWrong
 from x86 import UPPER
-
-if TYPE_CHECKING:
-    from rfc7693 import Kind
 
 PATHS, LIMIT = 200, 200000             # of a call: paths at a time, and instructions
 GAP = 64                               # bytes for saved registers between the caller and the zeros
@@ -29,7 +27,8 @@ class Terms:
         self.calls, self.machine = calls, machine
 
     def word(self, n: Any) -> T.Term:
-        return T.const(64, n) if isinstance(n, int) else unpadded(self.machine, self.machine.settled(n))
+        t = T.const(64, n) if isinstance(n, int) else n
+        return t if t.op == "const" else unpadded(self.machine, self.machine.settled(t))
 
     def number(self, n: T.Term | int, size: int) -> list:
         data = self.machine.bytes_of(self.word(n))
@@ -46,10 +45,10 @@ class Terms:
         return below(self.machine, j, self.word(n), x, y)
 
     def plus(self, a: Any, b: Any) -> T.Term:
-        return T.add(64, (1, self.word(a)), (1, self.word(b)))
+        return total(self.word(a), self.word(b))
 
     def minus(self, a: Any, b: Any) -> T.Term:
-        return T.add(64, (1, self.word(a)), (-1, self.word(b)))
+        return total(self.word(a), self.word(b), -1)
 
     def times(self, m: int, k: Any) -> T.Term:
         return T.add(64, (m, self.word(k)))
@@ -61,13 +60,6 @@ class Terms:
             raise CannotShow("whether %r %s %r is not known" % (a, relation, b))
         return found
 
-    def difference(self, a: Any, b: Any) -> Any:
-        return 0 if self.holds("<", a, b) else self.minus(a, b)
-
-    def least(self, most: int, n: Any) -> Any:
-        """The number, but at most another."""
-        return n if self.holds("<", n, most) else most
-
     def may_be_less(self, a: Any, b: Any) -> bool:
         """Whether a < b, unless it is known that it is not."""
         return self.machine.path_facts.decide("<", self.word(a), self.word(b)) is not False
@@ -75,22 +67,16 @@ class Terms:
     def xor(self, data: bytes | list, other: list) -> list:
         return bitwise(T.xor, list(data), list(other))
 
-    def is_zero(self, n: Any) -> bool:
-        return self.holds("==", n, 0)
-
-    def is_on(self, n: T.Term | int) -> int:
-        return int(not self.is_zero(n))
-
     def are_equal(self, x: Any, y: Any) -> Any:
         byte: T.Byte = 0
         for p, q in zip(x, y):
             byte = any_of(byte, self.xor([p], [q])[0])
         return is_zero(T.word([byte]))
 
-    def compress(self, kind: "Kind", chain: list, block: list, count: T.Term, last: int, node: int) -> list:
+    def compress(self, kind: Kind, chain: list, block: list, count: T.Term, last: int, node: int) -> list:
         return self.calls.result("F", kind, tuple(chain), tuple(block), self.word(count), last, node)
 
-    def compress_all(self, kind: "Kind", chain: list, data: Buffer, start: T.Term | int,
+    def compress_all(self, kind: Kind, chain: list, data: Buffer, start: T.Term | int,
                      k: T.Term | int, count: T.Term | int) -> list:
         if k == 0:
             return chain
@@ -103,12 +89,10 @@ class Unmeasured(Exception):
 
 
 class Loop(Straight):
-    """A loop that compresses one block in each iteration. The first iteration also proposes where the chaining words
-    are."""
+    """A loop that compresses one block in each iteration. The first also proposes where the chaining words are."""
 
     def compress(self, machine: Any) -> tuple:
-        """The machine after an iteration, the word that is 0 if it is the last one, and the call of the compression
-        in it."""
+        """The machine after an iteration, the word that is 0 if it is the last, and its compression."""
         self.calls.compressed = []
         end, left = self.iterate(machine)
         if len(self.calls.compressed) != 1:
@@ -183,12 +167,8 @@ class Calls:
         self.answering = tuple(functions.IS_DIGEST_OF % f for f in ("blake2b", "blake2s"))
         self.forget()
 
-    def measure(self, name: str) -> None:
-        """Finds how much of the stack a function uses that compresses. All terms are forgotten."""
-        compression.show(self.program, name, *self.listed[name])
-
     def frame(self, name: str) -> int:
-        """The same, if it was measured, of a function that compresses one block, or one of each message."""
+        """How much of the stack a function uses that compresses one block, or one of each message."""
         if self.listed[name][1] != 1 and compression.call_of(name) is not compression.EachCall:
             raise CannotShow("a compression of several messages")
         if self.program.content(name) not in compression.FRAMES:
@@ -199,7 +179,7 @@ class Calls:
         self.results, self.compressed, self.count = {}, [], 0
         self.need_output = no_output
 
-    def result(self, what: str, kind: "Kind", *arguments: Any) -> list:
+    def result(self, what: str, kind: Kind, *arguments: Any) -> list:
         """The bytes of eight chaining words: the same variables for the same arguments."""
         n = self.results.setdefault((what, kind.name) + arguments, len(self.results))
         return [b for j in range(8) for b in T.split(T.var(kind.w, "%s%d.%d" % (what, n, j), T.SECRET))]
@@ -343,8 +323,7 @@ class Calls:
         return ends
 
     def compared(self, m: Any, i: Any, code: dict) -> list:
-        """Both ways of the branch by which a comparison returns: where all it has collected is zero, and where
-        not."""
+        """Both ways of the branch by which a comparison returns: all that it has collected is zero, or not."""
         if i.name not in ("je", "b.eq") or m.compared_bytes or not all(
                 self.cpu.only_returns(code, pc) for pc in (i.target, i.next)):
             raise IsWrong("a branch depends on secret data")
@@ -374,7 +353,7 @@ class Calls:
             self.cpu(n).set_answer([n.compared_bytes[1]])
         return found
 
-    def compress(self, m: Any, kind: "Kind", lanes: int) -> None:
+    def compress(self, m: Any, kind: Kind, lanes: int) -> None:
         """A call of F: of one message, or of one block of each of several, whose chaining words are in rows of all, and
         what else differs in tables."""
         frame = self.frame(self.program.target(self.at, OF_C))
@@ -396,7 +375,7 @@ class Calls:
         m.compressed(frame)
         self.cpu(m).clobber(LEFT)
 
-    def compress_one(self, m: Any, kind: "Kind", chain: list, at: T.Term, counter: T.Term, flags: list) -> list:
+    def compress_one(self, m: Any, kind: Kind, chain: list, at: T.Term, counter: T.Term, flags: list) -> list:
         """The chaining words after the block at an address."""
         need_public(counter, "the counter")
         if any(b not in (0, 1) for b in flags):
@@ -434,8 +413,7 @@ class Scrub(Calls):
 
 
 def show_scrub(program: programs.Program, name: str, count: int) -> None:
-    """Shows, over a stack of secrets, that a scrub_stack overwrites its bytes of the stack with zeros, and does nothing
-    else, or raises Refused."""
+    """Shows, over a stack of secrets, that a scrub_stack overwrites its bytes with zeros, and nothing else."""
     T.reset()
     calls = Scrub(program, name, count)
     sp, back = (T.var(64, t, T.PUBLIC) for t in ("sp", "return address"))

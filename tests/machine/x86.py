@@ -7,8 +7,8 @@ from typing import Any, Callable
 
 import machine
 import terms as T
-from machine import (LEFT, ON_VECTORS, ON_WORDS, SECRET, UNKNOWN, Flags, Operand, Processor, chunks, image,
-                     joined, need_public, no_rule, number, of_numbers, picked, total, unknown_bit)
+from machine import (LEFT, ON_VECTORS, ON_WORDS, SECRET, UNKNOWN, Flags, Operand, Processor, chunks, image, joined,
+                     junk, need_public, no_rule, number, of_numbers, picked, total)
 from terms import CannotShow, IsWrong
 
 RAX, RCX, RDX, RBX, RSP, RBP, RSI, RDI = range(8)
@@ -160,7 +160,7 @@ def moved(row: tuple, sources: tuple, numbers: list) -> list:
 def bit_of(b: T.Byte, k: int) -> T.Byte:
     """Bit k of a byte, as a byte of a mask."""
     t = T.leaves(lambda n: n >> k & 1, 8, T.word([b]))
-    return (unknown_bit() if t is None else T.split(t))[0]
+    return (junk("mask", 1) if t is None else T.split(t))[0]
 
 
 def chosen(bit: T.Byte, on: list, off: list) -> list:
@@ -188,17 +188,15 @@ COMPUTED: dict = {
         ("padd", 2, "add", "dq"), ("psub", 2, "sub", "q"), ("psrl", 1, "shr", "wdq"), ("psll", 1, "shl", "dq"),
         ("prol", 1, "rol", "dq")) for c in ends},
     "blendvps": (3, 4, blend_by_sign), "blendvpd": (3, 8, blend_by_sign), "pblendvb": (3, 1, blend_by_sign),
-    "pmovsxdq": (1, 4, with_sign), "pcmpgtq": (2, 8, no_rule), "pcmpeqb": (2, 1, no_rule),
-    "pmovmskb": (1, 1, no_rule), "pternlogd": (3, 4, no_rule),
-    "pternlogq": (3, 8, no_rule),
+    "pmovsxdq": (1, 4, with_sign), "pcmpgtq": (2, 8, no_rule), "pcmpeqb": (2, 1, no_rule), "pmovmskb": (1, 1, no_rule),
+    "pternlogd": (3, 4, no_rule), "pternlogq": (3, 8, no_rule),
 }
 # Other names for the same.
-ALIKE = {"permpd": "permq", "unpcklpd": "punpcklqdq", "movlhps": "punpcklqdq",
-         "unpckhpd": "punpckhqdq", "unpcklps": "punpckldq", "unpckhps": "punpckhdq", "blendps": "pblendd",
-         "perm2f128": "perm2i128",
+ALIKE = {"permpd": "permq", "unpcklpd": "punpcklqdq", "movlhps": "punpcklqdq", "unpckhpd": "punpckhqdq",
+         "unpcklps": "punpckldq", "unpckhps": "punpckhdq", "blendps": "pblendd", "perm2f128": "perm2i128",
          "permps": "permd", "broadcastss": "pbroadcastd", "broadcastsd": "pbroadcastq", "extractps": "pextrd",
-         "broadcasti128": "pbroadcasti128", "extracti128": "pextri128", "inserti128": "pinsri128",
-         "insertf128": "pinsri128", "inserti32x4": "pinsri128"}
+         "broadcasti128": "pbroadcasti128", "extracti128": "pextri128", **dict.fromkeys(
+             ("inserti128", "insertf128", "inserti32x4"), "pinsri128")}
 # Those for the same if one of the first operands is in memory: how many these are.
 LOW_MOVES = {"movss": (2, "movd"), "movsd": (2, "movq"), "movlps": (1, "movq")}
 BITWISE = {name + end: what for what in ("xor", "or", "and") for name, ends in (("p" + what, ("", "d", "q")), (
@@ -255,7 +253,7 @@ class X86(Processor):
         start = 0 if j in UPPER else 16
         is_left = what == LEFT and self.values.is_left(j, start)
         upper = self.values.lost(WIDTH - start, self.values.left_by(old[start:]) if is_left else what)
-        kept = [x if what == LEFT and x == 0 else y for x, y in zip(old[start:], upper)]
+        kept = [x if x == 0 else y for x, y in zip(old[start:], upper)] if what == LEFT else upper
         return self.values.lost(start, what) + kept
 
     def need_vectors(self) -> None:
@@ -301,8 +299,7 @@ class X86(Processor):
     def condition(self, i: Instruction) -> tuple | None:
         if i.name[1:] not in CONDITIONS:
             raise i.unknown()
-        self.need_public_flags()
-        return self.compared(i.name[1:])
+        return self.branched(i.name[1:])
 
     def step(self, i: Instruction) -> None:
         if i.action is None:
@@ -381,8 +378,7 @@ class X86(Processor):
         self.arithmetic("other", lambda a, b: T.add(a.w, (1, a), (sign, b), (sign, carry)), to, source)
 
     def of_public(self, i: Instruction, *ops: Operand) -> None:
-        """A product or a division, whose time may depend on the operands: these must be public. One of bytes has all
-        of its result in ax, and is not modelled."""
+        """A product or a division, whose operands must be public. One of bytes, into ax, is not modelled."""
         *results, source = ops
         if source.size == 1:
             raise CannotShow("a product or a division of bytes")
@@ -431,8 +427,7 @@ class X86(Processor):
 
     @classmethod
     def vector_step(cls, i: Instruction) -> Callable:
-        """What executes an instruction of a table. The old encodings need operands of 16 bytes in memory to be
-        aligned."""
+        """What executes an instruction of a table. Old encodings need operands of 16 bytes in memory to be aligned."""
         vex, ops = i.name.startswith("v"), [o for o in i.operands if o.kind != "number"]
         name, kinds = i.name[vex:], [o.kind for o in ops]
         count, other = LOW_MOVES.get(name, (0, name))

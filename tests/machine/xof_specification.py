@@ -7,8 +7,8 @@ from __future__ import annotations
 from typing import Any, Callable
 
 import call_specification as S
+from call_specification import Field, State
 from rfc7693 import Kind
-from structs import Field, State, zeros_of
 from symbolic import Buffer
 from terms import Term
 
@@ -22,7 +22,7 @@ def fields(kind: Kind) -> tuple:
 
 def zeros(kind: Kind) -> State:
     """The wiped state."""
-    return zeros_of(fields(kind))
+    return S.zeros(kind, fields)
 
 
 def unknown(kind: Kind) -> int:
@@ -91,7 +91,8 @@ def stream(a: Any, kind: Kind, s: State, is_known: bool) -> Callable:
     """The blocks of the output, by their numbers. Each is the hash of the root hash, without a key, and with
     parameters of its own; the last one may be shorter, so its length has less than a block."""
     def block(i: Any) -> list:
-        size = a.least(kind.w, a.minus(output_length(kind, s.xof_length, is_known), a.times(kind.w, i)))
+        left = a.minus(output_length(kind, s.xof_length, is_known), a.times(kind.w, i))
+        size = left if a.holds("<", left, kind.w) else kind.w
         tree = (0, 0, kind.w, a.plus(i, a.times(1 << 32, s.xof_length)), 0, kind.w)
         first = S.from_block(a, kind, S.parameter_block(a, kind, size, 0, tree, s.texts), size)
         return S.digest(a, kind, first.but(pending=s.root + [0] * (kind.block - kind.w), pending_length=kind.w))
