@@ -15,6 +15,7 @@ ghost use Rattle.blake2_state.specs.ConstructorArguments.{parameters_given};
 ghost use Rattle.b2sum.specs.FileDigests.{digest_with};
 ghost use Rattle.b2sum.specs.RefusedTexts.{IsTooLong, AcceptsOptions, counted_key, limit_of};
 
+use crate::lanes::digest_eight;
 use crate::states::{Absorb, HashState};
 use b2sum_commands::{Function, Hashes, OpenFile, Options};
 use b2sum_lines::Algorithm;
@@ -23,6 +24,7 @@ use blake2_digest::{scrub_stack, tell_bytes};
 use blake2_parallel::{blake2bp, blake2sp};
 use blake2_state::tree::TreeState;
 use blake2_state::{StateParameters, blake2b, blake2s};
+use std::array::from_fn;
 
 /// BLAKE2b, BLAKE2s, BLAKE2bp, BLAKE2sp, and trees over BLAKE2b.
 #[derive(Clone, Copy)]
@@ -74,12 +76,7 @@ impl Hashes for Blake2 {
             (limit_of function.algorithm)) }
         ensures name { S.named source.new ≡ S.named source.old }
     {
-        let given = StateParameters {
-            output_size: function.bytes,
-            key: options.key.as_slice(),
-            salt: options.salt.as_slice(),
-            persona: options.persona.as_slice(),
-        };
+        let given = parameters(options, function);
         match function.algorithm {
             Algorithm::Blake2b => digest::<blake2b::State, S>(&given, source, buffer, out),
             Algorithm::Blake2s => digest::<blake2s::State, S>(&given, source, buffer, out),
@@ -88,6 +85,30 @@ impl Hashes for Blake2 {
             Algorithm::Tree(leaf) => {
                 digest_tree(leaf, options.threads, &given, source, buffer, out)
             }
+        }
+    }
+
+    fn digest_eight(
+        &self,
+        options: &Options,
+        function: Function,
+        texts: &[&[u8]; 8],
+        out: &mut [[u8; 64]; 8],
+    ) -> bool {
+        if !options.key.is_empty() {
+            return false;
+        }
+        let given = parameters(options, function);
+        match function.algorithm {
+            Algorithm::Blake2b => {
+                let mut states: [blake2b::State; 8] = from_fn(|_| blake2b::State::zeros());
+                digest_eight(&given, texts, &mut states[..], out)
+            }
+            Algorithm::Blake2s => {
+                let mut states: [blake2s::State; 8] = from_fn(|_| blake2s::State::zeros());
+                digest_eight(&given, texts, &mut states[..], out)
+            }
+            Algorithm::Blake2bp | Algorithm::Blake2sp | Algorithm::Tree(_) => false,
         }
     }
 
@@ -106,6 +127,21 @@ impl Hashes for Blake2 {
             Algorithm::Tree(_) => TREE_PIECE_BYTES,
             _ => PIECE_BYTES,
         }
+    }
+}
+
+// Returns the parameters of a hash by this function.
+fn parameters<'a>(options: &'a Options, function: Function) -> StateParameters<'a>
+    ensures size { result.output_size ≡ function.bytes }
+    ensures key { result.key.now ≡ options.now.key.items }
+    ensures salt { result.salt.now ≡ options.now.salt.items }
+    ensures persona { result.persona.now ≡ options.now.persona.items }
+{
+    StateParameters {
+        output_size: function.bytes,
+        key: options.key.as_slice(),
+        salt: options.salt.as_slice(),
+        persona: options.persona.as_slice(),
     }
 }
 

@@ -4,6 +4,7 @@
 
 mod disk;
 mod hashes;
+mod lanes;
 mod states;
 
 use b2sum_commands::{Host, Program, Session, run};

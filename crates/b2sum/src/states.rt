@@ -8,9 +8,13 @@ mod tree;
 
 ghost use Rattle.std.specs.Prelude.{◌≡◌, ◌↔◌, ℕ, ◌+◌, ◌<◌, ◌≤◌, List, [], ◌++◌, length, take};
 ghost use Rattle.std.specs.Prelude.{true, false};
+ghost use Rattle.std.specs.Prelude.{slice_index_or};
 ghost use Rattle.blake2_state.specs.declared.StateParameters.{StateParameters};
+ghost use Rattle.blake2_state.specs.SeveralStates.{piece_at};
+ghost use Rattle.b2sum.specs.LaneStates.{Takes};
 
 use blake2_state::StateParameters;
+use blake2_state::many::Text;
 
 /// States that absorb bytes.
 pub trait Absorb {
@@ -75,4 +79,21 @@ pub trait HashState: Absorb {
         requires ready { Self.IsReady self.now }
         requires room { Self.size self.now ≤ length out.old }
         ensures { take (Self.size self.now) out.new ≡ Self.future self.now [] };
+}
+
+/// States of which several go on in lanes.
+pub trait LaneState: HashState {
+    /// Absorbs input j into state j, for each of them. There are as many inputs as states, each
+    /// state must be ready, and have room for its input.
+    fn update_several(states: &mut [Self], inputs: &[Text<'_>])
+        requires number { length inputs.now ≡ length states.old }
+        requires can { (j : ℕ) (s : Self) → j < length states.old
+            → Self.IsReady (slice_index_or states.old j s)
+            × (Self.count (slice_index_or states.old j s) + length (piece_at inputs.now j)
+            < Self.limit) }
+        ensures number { length states.new ≡ length states.old }
+        ensures absorbed { (j : ℕ) (s : Self) → j < length states.old
+            → Takes Self.IsReady Self.size Self.count Self.future
+            (slice_index_or states.old j s) (piece_at inputs.now j)
+            (slice_index_or states.new j s) };
 }

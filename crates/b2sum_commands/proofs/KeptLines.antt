@@ -1,8 +1,7 @@
 -- A list that is kept of what is printed.
-use Rattle.std.proofs.Common.{◌≡◌, ℕ, Bool, true, false, List, [], ◌++◌, Option, refl, ap, ◌∙◌, sym}
+use Rattle.std.proofs.Common.{◌≡◌, ℕ, Bool, true, false, List, [], ◌++◌, Option, ap, ◌∙◌, sym}
 use Rattle.std.proofs.Common.{append_assoc, append-nil, None, inl, inr, subst}
 use Rattle.std.proofs.KnownBytes.{Appends-nil, Appends-trans}
-use Rattle.std.specs.Io.KnownBytes.{Appends}
 use Rattle.blake2_streams.specs.Streams.{TakesPart}
 use Rattle.b2sum_commands.specs.declared.options.Options.{Options}
 use Rattle.b2sum_commands.specs.Messages.{is_standard_input}

@@ -1,7 +1,7 @@
 -- What is known of the bytes of a file that is open: nothing, if nothing is known of its name.
 use Rattle.std.proofs.Common.{◌≡◌, ◌⊎◌, ℕ, Bool, true, false, List, Option, Some, None, inl, inr}
 use Rattle.std.proofs.Common.{refl}
-use Rattle.std.proofs.Common.{[], ◌<◌, length, ap, subst, sym, true≢false, IfSome, if◌then◌else◌}
+use Rattle.std.proofs.Common.{◌<◌, length, ap, subst, sym, true≢false, IfSome, if◌then◌else◌}
 use Rattle.std.specs.Io.KnownBytes.{Consumes, IsAtEnd}
 use Rattle.blake2_streams.specs.Streams.{GivesAll}
 use Rattle.b2sum_commands.specs.declared.check.Counts.{Counts}

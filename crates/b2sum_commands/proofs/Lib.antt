@@ -1,6 +1,7 @@
 pub mod OneMore
 pub mod StandardInputName
 pub mod KnownBytes
+pub mod FilesAhead
 pub mod DoneInTurn
 pub mod KeptLines
 pub mod SealedTexts

@@ -9,6 +9,7 @@ pub mod PrintedSums
 pub mod Manifests
 pub mod LineReads
 pub mod Quoting
+pub mod ReadAhead
 pub mod Reports
 pub mod ManifestChecks
 pub mod SealedLists

@@ -25,6 +25,7 @@ ghost use Rattle.b2sum_commands.specs.Manifests.{are_shown, digest_lines, full_o
 ghost use Rattle.b2sum_commands.specs.Manifests.{improper, is_warnings};
 ghost use Rattle.b2sum_commands.specs.ManifestChecks.{item_value, IfListed, IsChecked, GoesOn};
 ghost use Rattle.b2sum_commands.specs.ManifestChecks.{AreRead, EndsAt, AreStopped, TellsUnopened};
+ghost use Rattle.b2sum_commands.specs.ReadAhead.{AreFound};
 ghost use Rattle.b2sum_commands.specs.SealedLists.{IsCheckedAs};
 ghost use Rattle.b2sum_commands.specs.declared.line_reader.LineEnd.TheVariants.{Failure};
 ghost use Rattle.b2sum_commands.specs.declared.check.Verdict.TheVariants.{Equal, Different};
@@ -33,10 +34,12 @@ ghost use Rattle.b2sum_commands.specs.declared.check.Verdict.TheVariants.{Unread
 ghost use Rattle.b2sum_commands.specs.declared.check.Verdict as verdict;
 ghost use Rattle.b2sum_commands.specs.declared.sums.Read.TheVariants.{Whole, Missing, Failed};
 
+use crate::ahead::Ahead;
 use crate::devices::{Disk, Fault, OpenFile, Output, put};
 use crate::hashes::{Function, Hashes};
 use crate::line_needs::{Lacks, meets};
 use crate::line_reader::{LineEnd, LineReader};
+use crate::listed_ahead::{Unchecked, go_on_in_list};
 use crate::messages::{
     warn_of_count, warn_of_file, warn_of_foreign, warn_of_line, warn_of_line_needs, warn_of_needs,
     warn_of_no_entry, warn_of_none, warn_of_read,
@@ -328,18 +331,44 @@ fn check_lines<H: Hashes, D: Disk, K: Output, E: Sink>(
 {
     let mut counts = Counts::none();
     let mut line = Vec::new(host.program.alloc);
+    let mut ahead = Ahead::new(host.program.alloc);
     'number: for _ in 0..u64::MAX {
         let end = manifest.read_line(&mut session.input, &mut line)?;
         if end != LineEnd::Newline && line.is_empty() {
             return Ok(counted(end, counts));
         }
-        let verdict = check_line(host, options, session, manifest.is_input(), line.as_slice())?;
+        let text = line.as_slice();
+        go_on_after(host, options, session, manifest, text, &mut ahead);
+        let is_input = manifest.is_input();
+        let verdict = check_line(host, options, session, &ahead, is_input, text)?;
         counts.add(verdict);
         if end != LineEnd::Newline {
             return Ok(counted(end, counts));
         }
     }
     Err(Fault::NoMemory)
+}
+
+// Goes on to this line of a manifest: reads files that are listed from there on, if it is their
+// turn.
+fn go_on_after<H: Hashes, D: Disk, K: Output, E: Sink>(
+    host: &Host<H, D>,
+    options: &Options,
+    session: &Session<D::File, K, E>,
+    manifest: &Manifest<D::File>,
+    line: &[u8],
+    ahead: &mut Ahead,
+)
+    requires { AreFound (D.files host.now.disk) H.hashing options.now ahead.old.found.items }
+    ensures { AreFound (D.files host.now.disk) H.hashing options.now ahead.new.found.items }
+{
+    let lines = Unchecked {
+        line,
+        rest: manifest.lines.unread(),
+        spacing: session.spacing(),
+        is_input: manifest.is_input(),
+    };
+    go_on_in_list(host, options, &lines, ahead);
 }
 
 // Returns the counts of a manifest that is at its end, and `None` if a read failed.
@@ -359,9 +388,11 @@ pub(crate) fn check_line<H: Hashes, D: Disk, K: Output, E: Sink>(
     host: &Host<H, D>,
     options: &Options,
     session: &mut Session<D::File, K, E>,
+    ahead: &Ahead,
     is_input: bool,
     line: &[u8],
 ) -> Result<Verdict, Fault>
+    requires { AreFound (D.files host.now.disk) H.hashing options.now ahead.now.found.items }
     ensures checked { IfOk result (IsLine
         (world_of host.now.program.name.items D.File.named D.File.failed D.File.failure
         (D.files host.now.disk) H.hashing)
@@ -385,7 +416,7 @@ pub(crate) fn check_line<H: Hashes, D: Disk, K: Output, E: Sink>(
             warn_of_unmet(&host.program, options, session, lacks)?;
             Ok(Verdict::Unmet(lacks))
         }
-        Item::Listed(entry) => check_entry(host, options, session, &entry),
+        Item::Listed(entry) => check_entry(host, options, session, ahead, &entry),
     }
 }
 
@@ -463,9 +494,9 @@ fn warn_of_unmet<F: OpenFile, K: Output, E: Sink>(
     Ok(())
 }
 
-// What a line of a manifest is.
+/// What a line of a manifest is.
 #[derive(Drop)]
-enum Item {
+pub(crate) enum Item {
     /// A comment, or nothing.
     Comment,
     /// The line of an entry.
@@ -476,9 +507,9 @@ enum Item {
     Malformed,
 }
 
-// Returns what a line is. An entry is one that the options can check. None is for standard input,
-// if that has the manifest, or had the key.
-fn read_item(
+/// Returns what a line is. An entry is one that the options can check. None is for standard input,
+/// if that has the manifest, or had the key.
+pub(crate) fn read_item(
     alloc: Global,
     options: &Options,
     spacing: Spacing,
@@ -524,8 +555,8 @@ fn trimmed(line: &[u8]) -> Option<&[u8]>
     if line.is_empty() { None } else { Some(line) }
 }
 
-// Returns the spacing of a manifest after an entry of this style.
-fn spacing_after(spacing: Spacing, style: Style) -> Spacing
+/// Returns the spacing of a manifest after an entry of this style.
+pub(crate) fn spacing_after(spacing: Spacing, style: Style) -> Spacing
     ensures { result ≡ spacing_after spacing style }
 {
     match style {
@@ -540,9 +571,11 @@ fn check_entry<H: Hashes, D: Disk, K: Output, E: Sink>(
     host: &Host<H, D>,
     options: &Options,
     session: &mut Session<D::File, K, E>,
+    ahead: &Ahead,
     entry: &Entry,
 ) -> Result<Verdict, Fault>
-    requires { length entry.now.digest.items ≤ 64 }
+    requires bytes { length entry.now.digest.items ≤ 64 }
+    requires ahead { AreFound (D.files host.now.disk) H.hashing options.now ahead.now.found.items }
     ensures verdict { IfOk result (HasVerdict Appends
         (world_of host.now.program.name.items D.File.named D.File.failed D.File.failure
         (D.files host.now.disk) H.hashing) options.now
@@ -560,7 +593,7 @@ fn check_entry<H: Hashes, D: Disk, K: Output, E: Sink>(
     ensures write { IsErrOf result Fault.WriteFailed → session.new.output_failed ≡ true }
 {
     let mut digest = [0u8; 64];
-    let verdict = judge_entry(host, options, session, entry, &mut digest)?;
+    let verdict = judge_entry(host, options, session, ahead, entry, &mut digest)?;
     let all = &digest[..];
     let found = &all[..entry.digest.len()];
     let alloc = host.program.alloc;
@@ -574,10 +607,12 @@ fn judge_entry<H: Hashes, D: Disk, K: Output, E: Sink>(
     host: &Host<H, D>,
     options: &Options,
     session: &mut Session<D::File, K, E>,
+    ahead: &Ahead,
     entry: &Entry,
     out: &mut [u8; 64],
 ) -> Result<Verdict, Fault>
-    requires { length entry.now.digest.items ≤ 64 }
+    requires bytes { length entry.now.digest.items ≤ 64 }
+    requires ahead { AreFound (D.files host.now.disk) H.hashing options.now ahead.now.found.items }
     ensures verdict { IfOk result (λ v. IsVerdict
         (world_of host.now.program.name.items D.File.named D.File.failed D.File.failure
         (D.files host.now.disk) H.hashing) options.now session.old.left
@@ -597,7 +632,7 @@ fn judge_entry<H: Hashes, D: Disk, K: Output, E: Sink>(
         algorithm: entry.algorithm,
         bytes: size,
     };
-    let read = digest_file(host, options, session, name, function, out)?;
+    let read = digest_file(host, options, session, ahead, name, function, out)?;
     let all = &out[..];
     Ok(verdict_of(read, &all[..size], entry.digest.as_slice()))
 }

@@ -92,6 +92,12 @@ pub trait Disk {
         ensures unfailed { IfOk result (λ file. Self.File.failed file ≡ false) }
         ensures named { IfOk result (λ file. Self.File.named file ≡ name.now) };
 
+    /// Opens the file of this name for reading before its turn: a regular file of 1 byte to 1 MiB,
+    /// that is not standard output. The result is `None` if it is none, or cannot be opened now.
+    fn open_ahead(&self, alloc: Global, name: &[u8]) -> Option<Self::File>
+        ensures { IfSome result (λ file. IfSome ((files self.now).holds name.now)
+            (λ _. Self.File.left file ≡ (files self.now).holds name.now)) };
+
     /// Returns the text of an error.
     fn reason_of(&self, alloc: Global, error: io::Error) -> Result<String, AllocError>
         ensures { IfOk result

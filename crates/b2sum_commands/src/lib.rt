@@ -3,6 +3,7 @@
 
 #![tactic(auto)]
 
+mod ahead;
 mod check;
 mod choices;
 mod devices;
@@ -11,6 +12,7 @@ mod key;
 pub mod laws;
 mod line_needs;
 mod line_reader;
+mod listed_ahead;
 mod messages;
 mod option_names;
 mod options;

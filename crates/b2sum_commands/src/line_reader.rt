@@ -88,6 +88,13 @@ impl LineReader {
         Err(AllocError)
     }
 
+    /// Returns the bytes that were read and are in no line yet.
+    pub(crate) fn unread(&self) -> &[u8]
+        ensures { result.now ≡ self.now }
+    {
+        &self.piece.as_slice()[self.start..self.end]
+    }
+
     // Reads the next bytes of the source, in the place of those that were read before. Returns how
     // many they are: 0 at the end. The error is that of the read.
     fn read_piece<S: OpenFile>(&mut self, source: &mut S) -> Result<usize, DeviceError>

@@ -15,9 +15,11 @@ ghost use Rattle.b2sum_commands.specs.SealedLists.{IsCheckedAs, IsOverlong, IsUn
 ghost use Rattle.b2sum_commands.specs.SealedLists.{long_reason};
 ghost use Rattle.b2sum_commands.specs.World.{HasError, InTurn, IsStopped, IsWritten, world_of};
 
+use crate::ahead::Ahead;
 use crate::check::{Counts, check_line, end_manifest};
 use crate::devices::{Disk, Fault, OpenFile, Output};
 use crate::hashes::Hashes;
+use crate::listed_ahead::{Unchecked, go_on_in_list};
 use crate::messages::{warn_of_file, warn_of_name};
 use crate::options::Options;
 use crate::seals::is_sealed;
@@ -198,10 +200,18 @@ fn check_text<H: Hashes, D: Disk, K: Output, E: Sink>(
     ensures write { IsErrOf result Fault.WriteFailed → session.new.output_failed ≡ true }
 {
     let mut counts = Counts::none();
+    let mut ahead = Ahead::new(host.program.alloc);
     let mut rest = text;
     'line: while !rest.is_empty() {
         let (line, after) = split_line(rest);
-        let verdict = check_line(host, options, session, is_input, line)?;
+        let lines = Unchecked {
+            line,
+            rest: after,
+            spacing: session.spacing(),
+            is_input,
+        };
+        go_on_in_list(host, options, &lines, &mut ahead);
+        let verdict = check_line(host, options, session, &ahead, is_input, line)?;
         counts.add(verdict);
         rest = after;
     }

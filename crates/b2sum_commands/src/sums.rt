@@ -10,10 +10,12 @@ ghost use Rattle.blake2_streams.specs.Streams.{GivesAll};
 ghost use Rattle.std.specs.Result.{result_ok};
 ghost use Rattle.b2sum_commands.specs.declared.sums.Read.TheVariants.{Whole, Missing, Failed};
 ghost use Rattle.b2sum_commands.specs.Messages.{is_standard_input};
+ghost use Rattle.b2sum_commands.specs.ReadAhead.{AreFound};
 ghost use Rattle.b2sum_commands.specs.World.{world_of, AllInTurn, KeepsOutput, StopsIn};
 ghost use Rattle.b2sum_commands.specs.PrintedSums.{ReadsAs, LeavesInput, IsMissing, IsSum};
 ghost use Rattle.b2sum_commands.specs.PrintedSums.{ended_line, IsKept, TellsCause};
 
+use crate::ahead::{Ahead, digest_ahead, go_on};
 use crate::devices::{Disk, Fault, OpenFile, Output, put};
 use crate::hashes::{Function, Hashes};
 use crate::messages::warn_of_file;
@@ -36,15 +38,18 @@ pub(crate) enum Read {
 }
 
 /// Writes the digest of the file of this name, or of standard input for `-`, by this function at
-/// the front of `out`. A file that cannot be read has a message.
+/// the front of `out`: that which was made ahead, if the file was read before its turn. A file that
+/// cannot be read has a message.
 pub(crate) fn digest_file<H: Hashes, D: Disk, K: Output, E: Sink>(
     host: &Host<H, D>,
     options: &Options,
     session: &mut Session<D::File, K, E>,
+    ahead: &Ahead,
     name: &[u8],
     function: Function,
     out: &mut [u8; 64],
 ) -> Result<Read, Fault>
+    requires { AreFound (D.files host.now.disk) H.hashing options.now ahead.now.found.items }
     ensures whole { IfOk result (λ read. read ≡ Whole → (text : List ℕ)
         × ReadsAs (is_standard_input name.now) ((D.files host.now.disk).holds name.now)
         session.old.left session.new.left text
@@ -68,6 +73,10 @@ pub(crate) fn digest_file<H: Hashes, D: Disk, K: Output, E: Sink>(
             warn_of_file(host, error, &mut session.messages, name)?;
             return Ok(Read::Failed);
         }
+        return Ok(Read::Whole);
+    }
+    if let Some(digest) = digest_ahead(host, options, ahead, name, function) {
+        *out = digest;
         return Ok(Read::Whole);
     }
     let mut file = match host.disk.open(host.program.alloc, name) {
@@ -160,8 +169,10 @@ pub(crate) fn print_lines<H: Hashes, D: Disk, K: Output, E: Sink>(
     ensures write { IsErrOf result Fault.WriteFailed → session.new.output_failed ≡ true }
 {
     let mut are_read = true;
+    let mut ahead = Ahead::new(host.program.alloc);
     for name in names {
-        let is_read = print_sum(host, options, session, name.as_slice(), list)?;
+        go_on(host, options, names, &mut ahead);
+        let is_read = print_sum(host, options, session, &ahead, name.as_slice(), list)?;
         are_read &= is_read;
     }
     Ok(are_read)
@@ -173,10 +184,12 @@ fn print_sum<H: Hashes, D: Disk, K: Output, E: Sink>(
     host: &Host<H, D>,
     options: &Options,
     session: &mut Session<D::File, K, E>,
+    ahead: &Ahead,
     name: &[u8],
     list: &mut Vec<u8>,
 ) -> Result<bool, Fault>
-    requires { options.now.bytes ≤ 64 }
+    requires bytes { options.now.bytes ≤ 64 }
+    requires ahead { AreFound (D.files host.now.disk) H.hashing options.now ahead.now.found.items }
     ensures line { IsSum
         (world_of host.now.program.name.items D.File.named D.File.failed D.File.failure
         (D.files host.now.disk) H.hashing)
@@ -191,7 +204,7 @@ fn print_sum<H: Hashes, D: Disk, K: Output, E: Sink>(
         algorithm: options.algorithm,
         bytes: size,
     };
-    let read = digest_file(host, options, session, name, function, &mut digest)?;
+    let read = digest_file(host, options, session, ahead, name, function, &mut digest)?;
     if read != Read::Whole {
         return Ok(false);
     }

@@ -1,8 +1,10 @@
 //! BLAKE2b.
 
-use super::{Absorb, HashState};
+use super::{Absorb, HashState, LaneState};
 use blake2_state::StateParameters;
 use blake2_state::blake2b::State;
+use blake2_state::many::Text;
+use blake2_state::many::blake2b::update_many;
 
 impl Absorb for State {
     ghost use Rattle.std.specs.Prelude.{◌^◌};
@@ -56,5 +58,11 @@ impl HashState for State {
 
     fn write_digest(&self, out: &mut [u8]) {
         self.write_digest(out);
+    }
+}
+
+impl LaneState for State {
+    fn update_several(states: &mut [Self], inputs: &[Text<'_>]) {
+        update_many(states, inputs);
     }
 }

@@ -1,9 +1,11 @@
 // Made by tools/twins.py from src/states/blake2b.rt.
 //! BLAKE2s.
 
-use super::{Absorb, HashState};
+use super::{Absorb, HashState, LaneState};
 use blake2_state::StateParameters;
 use blake2_state::blake2s::State;
+use blake2_state::many::Text;
+use blake2_state::many::blake2s::update_many;
 
 impl Absorb for State {
     ghost use Rattle.std.specs.Prelude.{◌^◌};
@@ -57,5 +59,11 @@ impl HashState for State {
 
     fn write_digest(&self, out: &mut [u8]) {
         self.write_digest(out);
+    }
+}
+
+impl LaneState for State {
+    fn update_several(states: &mut [Self], inputs: &[Text<'_>]) {
+        update_many(states, inputs);
     }
 }

@@ -5,6 +5,7 @@ use Rattle.b2sum_commands.specs.World.{Streams}
 use Rattle.b2sum_commands.specs.LineReads.{source_left, source_name, IsAfter}
 use Rattle.b2sum_commands.specs.Manifests.{IsLine, BeginsLine}
 use Rattle.b2sum_commands.specs.declared.line_reader.LineEnd.TheVariants.{Newline}
+use Rattle.b2sum_commands.proofs.FilesAhead.{none_found}
 use Rattle.b2sum_commands.proofs.EndedByErrors.{stopped_between, stopped_in, some_bytes}
 use Rattle.b2sum_commands.specs.World.{world_of, HasFailed}
 use Rattle.b2sum_commands.proofs.Verdicts.{no_bytes}
@@ -25,6 +26,8 @@ number-init g c = record {
     reading_start _ _ _ _ _ _ c.requires,
     c.none-counts.ensures,
   );
+  ahead = none_found (g.D.Disk.files c.args.host.now.disk) g.H.Hashes.hashing c.args.options.now
+      c.new-ahead.result.found.items c.new-ahead.ensures;
 }
 
 pub returns-then-is_empty-clause-lines : goal.returns-then-is_empty-clause-lines
@@ -85,8 +88,8 @@ returns-then-ne-2-clause-lines g c =
     let file : is_none c.read_line.new.self.file ≡ input =
     c.in_ok-end.ensures.same ∙ c.number.invariant.file in
     let line : IsLine w o input items mid new v =
-    subst (λ (xs : List ℕ). IsLine w o input xs mid new v) c.as_slice.ensures.value
-    (subst (λ (b : Bool). IsLine w o b c.as_slice.result.now mid new v) (c.is_input.ensures ∙ file)
+    subst (λ (xs : List ℕ). IsLine w o input xs mid new v) c.as_slice-text.ensures.value
+    (subst (λ (b : Bool). IsLine w o b c.as_slice-text.result.now mid new v) (c.is_input-is_input.ensures ∙ file)
     c.in_ok-verdict.ensures.checked) in
     let some : 0 < length c.read_line.new.line.items = elim c.else-ne.branch [
       | else-ne-via-then-ne+else-is_empty w ↦ search (rules, w.is_empty.ensures, w.if-is_empty)
@@ -144,8 +147,8 @@ number-preserved g c =
     let file : is_none c.read_line.new.self.file ≡ input =
     c.in_ok-end.ensures.same ∙ c.number.invariant.file in
     let line : IsLine w o input items mid new v =
-    subst (λ (xs : List ℕ). IsLine w o input xs mid new v) c.as_slice.ensures.value
-    (subst (λ (b : Bool). IsLine w o b c.as_slice.result.now mid new v) (c.is_input.ensures ∙ file)
+    subst (λ (xs : List ℕ). IsLine w o input xs mid new v) c.as_slice-text.ensures.value
+    (subst (λ (b : Bool). IsLine w o b c.as_slice-text.result.now mid new v) (c.is_input-is_input.ensures ∙ file)
     c.in_ok-verdict.ensures.checked) in
     let stays = line_left left c.read_line.new.self.file w o input items mid new v file line in
     record {
@@ -160,7 +163,11 @@ number-preserved g c =
           (HasFailed g.D.File.OpenFile.named g.D.File.OpenFile.failed
           (source_name g.D.File.OpenFile.named c.args.manifest.now.file))) stays read.4)
           (search rules) same line c.add.ensures;
+      ahead = c.go_on_after.ensures;
     }
+
+pub go_on_after-requires : goal.go_on_after-requires
+go_on_after-requires g c = c.number.invariant.ahead
 
 pub returns-in_err-end-clause-stopped : goal.returns-in_err-end-clause-stopped
 returns-in_err-end-clause-stopped g c = λ _.
@@ -205,9 +212,9 @@ returns-in_err-verdict-clause-stopped g c = λ _.
     let file : is_none c.read_line.new.self.file ≡ input =
     c.in_ok-end.ensures.same ∙ c.number.invariant.file in
     let begun : BeginsLine w o input items mid new =
-    subst (λ (xs : List ℕ). BeginsLine w o input xs mid new) c.as_slice.ensures.value
-    (subst (λ (b : Bool). BeginsLine w o b c.as_slice.result.now mid new)
-    (c.is_input.ensures ∙ file)
+    subst (λ (xs : List ℕ). BeginsLine w o input xs mid new) c.as_slice-text.ensures.value
+    (subst (λ (b : Bool). BeginsLine w o b c.as_slice-text.result.now mid new)
+    (c.is_input-is_input.ensures ∙ file)
     (c.in_err-verdict.ensures.begun refl)) in
     let len : c.read_line.new.line.len ≡ length c.read_line.new.line.items =
     search (rules, c.read_line.new.line.ok) in

@@ -1,6 +1,7 @@
 use Rattle.std.proofs.Common.{◌≡◌, List, is_none}
 use Rattle.b2sum_commands.specs.World.{world_of}
 use Rattle.b2sum_commands.specs.LineReads.{source_left, source_name}
+use Rattle.b2sum_commands.specs.ReadAhead.{AreFound}
 use Rattle.b2sum_commands.specs.Reports.{AreCounted}
 use Rattle.b2sum_commands.specs.declared.check.Verdict.{Verdict}
 use Rattle.b2sum_commands.proofs.CheckedLines.{Reading}
@@ -17,4 +18,5 @@ invariant-number g l = record {
       (source_left g.D.File.OpenFile.left l.fn.manifest.file l.fn.session.left) l.fn.session
       l.manifest.lines (source_left g.D.File.OpenFile.left l.manifest.file l.session.left) l.session vs
       × AreCounted vs l.counts;
+  ahead : AreFound (g.D.Disk.files l.host.disk) g.H.Hashes.hashing l.options l.ahead.found.items;
 }

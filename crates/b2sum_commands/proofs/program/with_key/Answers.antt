@@ -1,9 +1,8 @@
-use Rattle.std.proofs.Common.{◌≡◌, ℕ, List, Option, Some, Vec, Global, IfSome, ap, refl, sym, subst}
+use Rattle.std.proofs.Common.{ℕ, List, Option, Some, Vec, Global, IfSome, ap, refl, sym, subst}
 use Rattle.std.specs.Option.{option_map}
 use Rattle.b2sum_lines.specs.ManifestLines.{max_bytes}
 use Rattle.b2sum_commands.specs.declared.options.Options.{Options}
-use Rattle.b2sum_commands.specs.Messages.{is_standard_input}
-use Rattle.b2sum_commands.specs.ProgramRuns.{AfterKey, IsPastKey, TakesKey, TellsNoKey}
+use Rattle.b2sum_commands.specs.ProgramRuns.{AfterKey, TakesKey, TellsNoKey}
 use Rattle.b2sum_commands.specs.ProgramRuns.{WarnsOfDigits}
 use Rattle.b2sum_commands.specs.World.{Streams, world_of}
 use Rattle.b2sum_commands.proofs.program.with_key.Goals as goal

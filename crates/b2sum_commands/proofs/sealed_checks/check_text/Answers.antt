@@ -17,4 +17,5 @@ line-preserved g c =
           c.check_line.new.session before.0 v c.split_line.ensures.first before.1
           c.in_ok-verdict.ensures.checked,
       count_step before.0 v c.line.counts c.add.new.self before.2 c.add.ensures,
+      c.go_on_in_list.ensures,
     )

@@ -1,6 +1,7 @@
 use Rattle.std.proofs.Common.{List, length}
 use Rattle.text_lines.specs.Cuts.{lines_of}
 use Rattle.b2sum_commands.specs.Manifests.{IsLine}
+use Rattle.b2sum_commands.specs.ReadAhead.{AreFound}
 use Rattle.b2sum_commands.specs.Reports.{AreCounted}
 use Rattle.b2sum_commands.specs.World.{world_of}
 use Rattle.b2sum_commands.specs.declared.check.Verdict.{Verdict}
@@ -14,6 +15,7 @@ invariant-line g l =
     g.D.File.OpenFile.failure (g.D.Disk.files l.host.disk) g.H.Hashes.hashing) l.options
     l.is_input) (lines_of l.fn.text) l.fn.session (lines_of l.rest) l.session vs
     × AreCounted vs l.counts
+    × AreFound (g.D.Disk.files l.host.disk) g.H.Hashes.hashing l.options l.ahead.found.items
 
 abbrev pub decreases-line : goal.decreases-line
 decreases-line g l = length l.rest

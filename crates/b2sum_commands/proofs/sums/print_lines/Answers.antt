@@ -3,6 +3,7 @@ use Rattle.b2sum_commands.proofs.OneMore.{all_more}
 use Rattle.b2sum_commands.proofs.EndedByErrors.{stops}
 use Rattle.b2sum_commands.proofs.DoneInTurn.{sofar_start, name_step, name_stops, names_end}
 use Rattle.b2sum_commands.proofs.DoneInTurn.{items_of}
+use Rattle.b2sum_commands.proofs.FilesAhead.{none_found}
 use Rattle.b2sum_commands.proofs.KeptLines.{kept_none, kept_more}
 use Rattle.b2sum_commands.specs.World.{world_of, AllInTurn, Ends, Stops}
 use Rattle.b2sum_commands.specs.PrintedSums.{IsSum}
@@ -12,6 +13,8 @@ pub loop-name-init : goal.loop-name-init
 loop-name-init g c = record {
   kept = kept_none c.args.options.now.is_sealed c.args.session.now.held c.args.list.now.items;
   lines = ([], sofar_start _ _ _, refl);
+  ahead = none_found (g.D.Disk.files c.args.host.now.disk) g.H.Hashes.hashing c.args.options.now
+      c.new-ahead.result.found.items c.new-ahead.ensures;
 }
 
 pub loop-name-preserved : goal.loop-name-preserved
@@ -28,7 +31,11 @@ loop-name-preserved g c =
             c.as_slice.ensures.value before.1 c.in_ok-is_read.ensures.line,
         ap (λ b. b && one) before.2 ∙ sym (all_more (λ well. well) before.0 one),
       );
+      ahead = c.go_on.ensures;
     }
+
+pub go_on-requires : goal.go_on-requires
+go_on-requires g c = c.loop-name.invariant.ahead
 
 pub returns-clause-lines : goal.returns-clause-lines
 returns-clause-lines g c =

@@ -2,6 +2,7 @@ use Rattle.std.proofs.Common.{◌≡◌, Bool, List, drop}
 use Rattle.std.specs.List.{list_all}
 use Rattle.b2sum_commands.specs.World.{world_of, Ends}
 use Rattle.b2sum_commands.specs.PrintedSums.{IsKept, IsSum}
+use Rattle.b2sum_commands.specs.ReadAhead.{AreFound}
 use Rattle.b2sum_commands.proofs.DoneInTurn.{Sofar, items_of}
 use Rattle.b2sum_commands.proofs.sums.print_lines.Given as goal
 
@@ -13,4 +14,5 @@ invariant-loop-name g l = record {
       g.D.File.OpenFile.failure (g.D.Disk.files l.host.disk) g.H.Hashes.hashing) l.options)) (items_of l.names) l.fn.session
       (items_of (drop l.name-index l.names)) l.session each
       × (l.are_read ≡ list_all (λ well. well) each);
+  ahead : AreFound (g.D.Disk.files l.host.disk) g.H.Hashes.hashing l.options l.ahead.found.items;
 }

@@ -1,7 +1,7 @@
 use Rattle.std.proofs.Common.{ap, rules, subst, ◌∙◌, sym, List, ℕ, Option}
 use Rattle.b2sum_commands.specs.Messages.{is_standard_input}
 use Rattle.b2sum_commands.specs.PrintedSums.{ReadsAs, IsSum}
-use Rattle.b2sum_commands.specs.World.{Streams, world_of, StopsIn}
+use Rattle.b2sum_commands.specs.World.{Streams, world_of}
 use Rattle.b2sum_commands.proofs.EndedByErrors.{stops}
 use Rattle.b2sum_commands.proofs.KeptLines.{sum_stops}
 use Rattle.b2sum_commands.proofs.sums.print_sum.Goals as goal

@@ -1,4 +1,4 @@
-use Rattle.std.proofs.Common.{◌≡◌, ℕ, ◌∙◌, ap, List, take, false, codes}
+use Rattle.std.proofs.Common.{ℕ, ◌∙◌, ap, List, take, false, codes}
 use Rattle.blake2_simd.specs.Family.{blake2b}
 use Rattle.blake2_compress.specs.Hash.{sequential}
 use Rattle.blake2.specs.States.{node_digest_of}

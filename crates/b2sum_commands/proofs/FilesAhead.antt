@@ -1,0 +1,96 @@
+-- Parts of the memory that files are read into, one after the other.
+use Rattle.std.proofs.Common.{◌≡◌, ℕ, ◌+◌, ◌-◌, ◌≤◌, List, ◌++◌, length, take, drop, sym, ap, ◌∙◌}
+use Rattle.std.proofs.Common.{subst, arith, append_assoc, length-append, Bool, true, false, [], ◌∷◌}
+use Rattle.std.proofs.Common.{if◌then◌else◌}
+use Rattle.std.specs.List.{All}
+use Rattle.std.proofs.lemmas.List.Elements.{All-nil, All-push, All-same}
+use Rattle.std.proofs.lemmas.List.{length-drop, length-take-le, take-append-drop, take-take, take_at}
+use Rattle.std.proofs.lemmas.Slice.{between_is}
+use borrow.Rule.Slice.PartMut.{put_mid, post_of}
+use Rattle.b2sum_commands.specs.declared.ahead.Found.{Found}
+use Rattle.b2sum_commands.specs.declared.ahead.Part.{Part}
+use Rattle.b2sum_commands.specs.ReadAhead.{AreFound, HasText, IsDigestOf, IsTextOf}
+use Rattle.b2sum_commands.specs.ReadAhead.{part_of}
+use Rattle.b2sum_commands.specs.World.{Files, Hashing}
+use Rattle.b2sum_commands.specs.declared.hashes.Function.{Function}
+use Rattle.b2sum_commands.specs.declared.options.Options.{Options}
+use Rattle.blake2_streams.specs.Streams.{GivesAll}
+
+-- A write to all from byte a on leaves the length as it is.
+pub length_written : {X : Type 0} (xs ys : List X) (a : ℕ) → a ≤ length xs
+    → length ys ≡ length xs - a → length (put_mid a (length xs - a) xs ys) ≡ length xs
+length_written xs ys a most same =
+    let post = post_of a (length xs - a) xs in
+    omega (
+      arith,
+      length-append (take a xs) (ys ++ post),
+      length-append ys post,
+      length-take-le a xs most,
+      length-drop (length xs - a) (drop a xs),
+      length-drop a xs,
+      same,
+      most,
+    )
+
+-- What is there up to byte a + n after it.
+pub take_written : {X : Type 0} (xs ys : List X) (a n : ℕ) → a ≤ length xs → n ≤ length ys
+    → take (a + n) (put_mid a (length xs - a) xs ys) ≡ take a xs ++ take n ys
+take_written {X} xs ys a n most within =
+    let post = post_of a (length xs - a) xs in
+    ap (λ (l : List X). take (a + n) (take a xs ++ (l ++ post))) (sym (take-append-drop n ys))
+    ∙ ap (λ (l : List X). take (a + n) (take a xs ++ l))
+    (append_assoc (take n ys) (drop n ys) post)
+    ∙ ap (take (a + n)) (sym (append_assoc (take a xs) (take n ys) (drop n ys ++ post)))
+    ∙ take_at (take a xs ++ take n ys) (drop n ys ++ post) (a + n)
+    (omega (
+      arith,
+      length-append (take a xs) (take n ys),
+      length-take-le a xs most,
+      length-take-le n ys within,
+    ))
+
+-- A part stays the same if the bytes up to its end do.
+same_part : (new old : List ℕ) (at s e : ℕ) → take at new ≡ take at old → e ≤ at
+    → take (e - s) (drop s new) ≡ take (e - s) (drop s old)
+same_part new old at s e same most =
+    between_is new s e
+    ∙ ap (drop s) (sym (take-take e at new most) ∙ ap (take e) same ∙ take-take e at old most)
+    ∙ sym (between_is old s e)
+
+-- So it keeps the file's text.
+pub kept_text : (files : Files) (new old : List ℕ) (at most : ℕ) → take at new ≡ take at old
+    → at ≤ most → (p : Part) → HasText files old at p → HasText files new most p
+kept_text files new old at most same le p has = (
+  has.0,
+  omega (arith, has.1, le),
+  subst (IsTextOf files p.name.items) (sym (same_part new old at p.start p.end same has.1)) has.2,
+)
+
+-- ---- lists
+
+-- There are none yet.
+pub none_found : (files : Files) (hashing : Hashing) (o : Options) (found : List Found)
+    → found ≡ [] → AreFound files hashing o found
+none_found files hashing o found is =
+    let Is : Found → Type 0 = λ x. IsDigestOf files hashing o x.function x.name.items x.digest in
+    All-same Is found [] is (All-nil Is)
+
+-- One more, if there is memory for it.
+pub all_pushed : {X : Type 0} (P : X → Type 0) (xs new : List X) (x : X) (b : Bool)
+    → new ≡ (if b then xs ++ x ∷ [] else xs) → All P xs → P x → All P new
+all_pushed P xs new x true is all one = All-same P new (xs ++ x ∷ []) is (All-push P xs x all one)
+all_pushed P xs new x false is all one = All-same P new xs is all
+
+-- The digest of a part is that of the file.
+pub found_here : (files : Files) (hashing : Hashing) (o : Options) (f : Function) (room : List ℕ)
+    (p : Part) (name text digest : List ℕ) → HasText files room (length room) p
+    → name ≡ p.name.items → text ≡ part_of room p → take f.bytes digest ≡ hashing.digest o f text
+    → IsDigestOf files hashing o f name digest
+found_here files hashing o f room p name text digest has named is right = (
+  part_of room p,
+  (
+    has.2.0,
+    subst (λ (n : List ℕ). GivesAll (files.holds n) has.2.0 (part_of room p)) (sym named) has.2.1,
+  ),
+  right ∙ ap (hashing.digest o f) is,
+)

@@ -1,0 +1,33 @@
+-- Digests of files that are read before their turn.
+use Rattle.std.specs.Prelude.{◌≡◌, ℕ, ◌-◌, ◌≤◌, List, take, drop, Option}
+use Rattle.std.specs.List.{All}
+use Rattle.blake2_streams.specs.Streams.{GivesAll}
+use Rattle.b2sum_commands.specs.declared.ahead.Found.{Found}
+use Rattle.b2sum_commands.specs.declared.ahead.Part.{Part}
+use Rattle.b2sum_commands.specs.declared.hashes.Function.{Function}
+use Rattle.b2sum_commands.specs.declared.options.Options.{Options}
+use Rattle.b2sum_commands.specs.World.{Files, Hashing}
+
+-- This is all of what a file has. If that is not known, it is some bytes.
+abbrev pub IsTextOf : Files → List ℕ → List ℕ → Type 0
+IsTextOf files name text = (end : Option (List ℕ)) × GivesAll (files.holds name) end text
+
+-- This digest of a file, by a function with the parameters of the options, is that of all its text.
+abbrev pub IsDigestOf : Files → Hashing → Options → Function → List ℕ → List ℕ → Type 0
+IsDigestOf files hashing o f name digest =
+    (text : List ℕ) × IsTextOf files name text
+    × (take f.bytes digest ≡ hashing.digest o f text)
+
+-- All these are digests of the files that they name.
+abbrev pub AreFound : Files → Hashing → Options → List Found → Type 0
+AreFound files hashing o =
+    All (λ x. IsDigestOf files hashing o x.function x.name.items x.digest)
+
+-- The bytes of a part of the memory.
+abbrev pub part_of : List ℕ → Part → List ℕ
+part_of room p = take (p.end - p.start) (drop p.start room)
+
+-- A part of the first bytes of the memory, so many, has all of what the file has that it names.
+abbrev pub HasText : Files → List ℕ → ℕ → Part → Type 0
+HasText files room most p =
+    (p.start ≤ p.end) × (p.end ≤ most) × IsTextOf files p.name.items (part_of room p)
