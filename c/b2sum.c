@@ -2,7 +2,7 @@
  * --tree, what --progress shows, how it keeps keys from others, and how it ends. The assembly file
  * calls b2sum_open, b2sum_read and b2sum_signal instead of open, read and signal of the C library,
  * and the functions here instead of its own absorb_tree, hide_memory and show_progress. None of
- * this is proved. tests/b2sum.c and ../tests/b2sum_system.py test it.
+ * this is proved. tests/b2sum.c, ../tests/b2sum_system.py and b2sum_ahead.py test it.
  *
  * ABSORB_TREE, HIDE_MEMORY and SHOW_PROGRESS are the names of these functions in the assembly file,
  * such as b2sum..disk..hide_memory_1_x86. */
@@ -342,13 +342,20 @@ static int move_up(int file) {
     return file;
 }
 
+/* What a path begins with whose file is to be read before its turn, the character U+10FF00, and the
+ * most bytes of such a file. Any other file is then refused, and is opened in its turn. */
+#define AHEAD "\xf4\x8f\xbc\x80"
+enum { AHEAD_BYTES = 1 << 20 };
+
 /* Opens the file for reading, from its start to its end. Returns its descriptor, or -1 and sets
  * errno. On Windows it refuses a device or another computer that no argument names: a manifest can
  * be a stranger's. The path has a frame of its own, so that the stack is wiped below that of b2sum_open. */
 __attribute__((noinline)) static int open_file(const char *name) {
+    const bool is_ahead = !strncmp(name, AHEAD, strlen(AHEAD));
     char path[PATH_ROOM];
     int file;
 
+    if (is_ahead) name += strlen(AHEAD);
     if (strlen(name) >= sizeof path) {
         errno = ENAMETOOLONG;
         return -1;
@@ -359,11 +366,11 @@ __attribute__((noinline)) static int open_file(const char *name) {
         errno = EACCES;
         return -1;
     }
-    do file = open_path(path);
+    do file = is_ahead ? open_plain(path, AHEAD_BYTES) : open_path(path);
     while (file < 0 && errno == EINTR);
     file = move_up(file);
     if (file < 0) return -1;
-    read_ahead(file);
+    if (!is_ahead) read_ahead(file);
     if (is_key_next && is_shared(file)) strcpy(shared_key, path);
     if (is_shown) begin_progress(file, path);
     return file;

@@ -118,6 +118,41 @@ static inline ssize_t read_next(int file, void *bytes, size_t size) {
     return readv(file, &room, 1);
 }
 
+/* Whether this is the path of a descriptor, such as /dev/stdin, which on macOS shares its position. */
+static inline bool is_of_descriptor(const char *path) {
+    return !strncmp(path, "/dev/fd/", 8) || !strncmp(path, "/dev/std", 8);
+}
+
+/* Whether this is a regular file with 1 to most bytes. */
+static inline bool is_plain(const struct stat *about, off_t most) {
+    return S_ISREG(about->st_mode) && about->st_size >= 1 && about->st_size <= most;
+}
+
+/* Whether this is the file of standard output. */
+static inline bool is_output(const struct stat *about) {
+    struct stat output;
+
+    return !fstat(STDOUT_FILENO, &output) && output.st_dev == about->st_dev &&
+           output.st_ino == about->st_ino;
+}
+
+/* Opens a regular file with 1 to most bytes for reading, which is not standard output. It waits for
+ * nothing: a pipe or a device that has meanwhile taken the place of the file is closed again.
+ * Returns the descriptor, or -1 and sets errno: to EAGAIN if it is another file. */
+static inline int open_plain(const char *path, off_t most) {
+    struct stat about;
+    int file;
+
+    if (stat(path, &about)) return -1;
+    errno = EAGAIN;
+    if (!is_plain(&about, most) || is_of_descriptor(path)) return -1;
+    file = openat(AT_FDCWD, path, O_RDONLY | O_CLOEXEC | O_NONBLOCK);
+    if (file < 0 || (!fstat(file, &about) && is_plain(&about, most) && !is_output(&about))) return file;
+    close(file);
+    errno = EAGAIN;
+    return -1;
+}
+
 /* Tells the system that a file is read from its start to its end. */
 static inline void read_ahead(int file) {
 #ifdef POSIX_FADV_SEQUENTIAL
@@ -318,6 +353,14 @@ static inline ssize_t read_stream(int file, void *bytes, size_t size) {
 
 static inline ssize_t read_next(int file, void *bytes, size_t size) {
     return _read(file, bytes, size < 1u << 30 ? (unsigned)size : 1u << 30);
+}
+
+/* No file is read before its turn. */
+static inline int open_plain(const char *path, off_t most) {
+    (void)path;
+    (void)most;
+    errno = EAGAIN;
+    return -1;
 }
 
 static inline void read_ahead(int file) { (void)file; }

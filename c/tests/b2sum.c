@@ -1,7 +1,52 @@
 /* Tests what ../b2sum.c does that no run of the program shows: what it shows of progress, to the millisecond and with
- * numbers of all lengths, the room that it needs, and what it wipes. It includes that file, with a clock, a standard
- * error and functions for memory that are replaced. programs.sh has the command; tests/b2sum_system.py runs the
- * program, and makes its calls of the system fail. */
+ * numbers of all lengths, the room that it needs, what it wipes, and which files it opens before their turn. It
+ * includes that file, with a clock, a standard error and functions for memory and files that are replaced, and makes
+ * files in the current folder, which is empty. programs.sh has the command; tests/b2sum_system.py and b2sum_ahead.py
+ * run the program, and make its calls of the system fail. */
+#define _GNU_SOURCE
+#include <errno.h>
+#include <fcntl.h>
+#include <stdbool.h>
+#include <stdio.h>
+#include <sys/socket.h>
+#include <sys/stat.h>
+#include <sys/un.h>
+#include <unistd.h>
+
+/* How often calls of stat and openat are interrupted, how many of openat there were, which then fail with this error,
+ * and the calls of posix_fadvise. */
+static int stat_interrupts, openat_interrupts, openat_calls, openat_error, advised;
+
+/* What is done before a file is opened. */
+static void (*do_before)(void);
+
+/* Whether fstat fails, and how much it adds to the device of standard output. */
+static bool fstat_fails;
+static dev_t device_added;
+
+static int stat_or_fail(const char *path, struct stat *about) {
+    errno = EINTR;
+    return stat_interrupts-- > 0 ? -1 : stat(path, about);
+}
+
+static int openat_or_fail(int folder, const char *path, int flags) {
+    openat_calls++;
+    if (do_before) do_before();
+    errno = openat_interrupts-- > 0 ? EINTR : openat_error;
+    return errno ? -1 : openat(folder, path, flags);
+}
+
+static int fstat_or_fail(int file, struct stat *about) {
+    errno = EIO;
+    if (fstat_fails || fstat(file, about)) return -1;
+    if (file == STDOUT_FILENO) about->st_dev += device_added;
+    return 0;
+}
+
+#define stat(path, about) stat_or_fail(path, about)
+#define openat(folder, path, flags) openat_or_fail(folder, path, flags)
+#define fstat(file, about) fstat_or_fail(file, about)
+#define posix_fadvise(file, from, length, advice) (advised++, (void)(file))
 #include "../system.h"
 
 #include <stdarg.h>
@@ -343,6 +388,175 @@ static void check_stack(void) {
     }
 }
 
+/* ---- Files before their turn. */
+
+/* The lowest free descriptor. */
+static int next_file(void) {
+    const int file = dup(STDERR_FILENO);
+
+    close(file);
+    return file;
+}
+
+/* Makes a file of this length, or changes it. */
+static void make_file(const char *path, off_t length) {
+    const int file = open(path, O_WRONLY | O_CREAT | O_CLOEXEC, 0600);
+
+    CHECK(file > STDERR_FILENO && !ftruncate(file, length) && !close(file));
+}
+
+/* Opens the file of this path before its turn. Returns 0 if that is done as it should be, and otherwise the error.
+ * Nothing of it stays open. */
+static int error_ahead(const char *path) {
+    static char name[PATH_ROOM + sizeof AHEAD];
+    const int before = next_file(), advice = advised;
+    int file, error;
+
+    strcat(strcpy(name, AHEAD), path);
+    errno = 0;
+    file = b2sum_open(name, 0);
+    error = errno;
+    CHECK(advised == advice && file >= -1);
+    if (file >= 0) {
+        CHECK(file == before && fcntl(file, F_GETFL) & O_NONBLOCK && fcntl(file, F_GETFD) & FD_CLOEXEC);
+        CHECK(!close(file));
+        error = 0;
+    }
+    CHECK(next_file() == before);
+    return error;
+}
+
+/* The same, if nothing but the error is to be noticed: the file is not even opened. */
+static int error_unopened(const char *path) {
+    const int calls = openat_calls, error = error_ahead(path);
+
+    CHECK(openat_calls == calls);
+    return error;
+}
+
+/* What may happen to the file `other` once it was looked at. */
+static void remove_other(void) { CHECK(!unlink("other")); }
+static void make_pipe(void) { CHECK(!unlink("other") && !mkfifo("other", 0600)); }
+static void make_empty(void) { make_file("other", 0); }
+static void make_long(void) { make_file("other", AHEAD_BYTES + 1); }
+static void make_another(void) { CHECK(!rename("one", "other")); }
+static void make_output(void) { CHECK(!unlink("other") && !link("output", "other")); }
+
+static int error_after(void (*change)(void)) {
+    int error;
+
+    unlink("other");
+    make_file("other", 5);
+    do_before = change;
+    error = error_ahead("other");
+    do_before = NULL;
+    return error;
+}
+
+/* Regular files of 1 byte to 1 MiB are opened, and no others. */
+static void check_kinds(void) {
+    struct sockaddr_un address = {.sun_family = AF_UNIX, .sun_path = "socket"};
+    const int server = socket(AF_UNIX, SOCK_STREAM | SOCK_CLOEXEC, 0), input = dup(STDIN_FILENO);
+    char path[40];
+    int file;
+
+    make_file("none", 0);
+    make_file("one", 1);
+    make_file("most", AHEAD_BYTES);
+    make_file("more", AHEAD_BYTES + 1);
+    CHECK(!symlink("one", "link") && !mkdir("folder", 0700) && !mkfifo("pipe", 0600));
+    CHECK(!bind(server, (struct sockaddr *)&address, sizeof address));
+    CHECK(AHEAD_BYTES == 1 << 20 && !error_ahead("one") && !error_ahead("most") && !error_ahead("link"));
+    CHECK(error_unopened("none") == EAGAIN && error_unopened("more") == EAGAIN && error_unopened("folder") == EAGAIN);
+    CHECK(error_unopened("pipe") == EAGAIN && error_unopened("socket") == EAGAIN);
+    CHECK(error_unopened("/dev/null") == EAGAIN && error_unopened("missing") == ENOENT && error_unopened("") == ENOENT);
+    CHECK(error_unopened("one/x") == ENOTDIR && error_unopened(AHEAD "one") == ENOENT);
+    file = openat(AT_FDCWD, "one", O_RDONLY);
+    sprintf(path, "/proc/self/fd/%d", file);
+    CHECK(!error_ahead(path));
+    sprintf(path, "/dev/fd/%d", file);
+    CHECK(error_unopened(path) == EAGAIN && dup2(file, STDIN_FILENO) == STDIN_FILENO);
+    CHECK(error_unopened("/dev/stdin") == EAGAIN && !error_ahead("/proc/self/fd/0"));
+    CHECK(dup2(input, STDIN_FILENO) == STDIN_FILENO && !close(input) && !close(file) && !close(server));
+}
+
+/* A file that has changed after it was looked at is looked at again, and what waits is not waited for. */
+static void check_others(void) {
+    make_file("output", 5);
+    make_file("one", 1);
+    CHECK(error_after(remove_other) == ENOENT && error_after(make_pipe) == EAGAIN);
+    CHECK(error_after(make_empty) == EAGAIN && error_after(make_long) == EAGAIN);
+    CHECK(!error_after(make_another) && !error_after(NULL));
+    fstat_fails = true;
+    CHECK(error_after(NULL) == EAGAIN);
+    fstat_fails = false;
+    openat_error = EMFILE;
+    CHECK(error_after(NULL) == EMFILE);
+    openat_error = 0;
+    stat_interrupts = openat_interrupts = 3;
+    CHECK(!error_after(NULL) && stat_interrupts < 0 && openat_interrupts < 0);
+}
+
+/* The file of standard output is not read before its turn, by whatever name. */
+static void check_output(void) {
+    const int output = dup(STDOUT_FILENO), file = openat(AT_FDCWD, "output", O_RDONLY);
+
+    CHECK(dup2(file, STDOUT_FILENO) == STDOUT_FILENO && !close(file));
+    CHECK(error_ahead("output") == EAGAIN && !error_ahead("most") && error_after(make_output) == EAGAIN);
+    device_added = 1; /* a file with that number on another device is another one */
+    CHECK(!error_ahead("output"));
+    device_added = 0;
+    close(STDOUT_FILENO);
+    CHECK(dup(output) == STDOUT_FILENO && !close(output) && !error_ahead("output"));
+}
+
+/* Whether the file of this path is opened in its turn, as it should be. */
+static bool opens_in_turn(const char *path) {
+    const int advice = advised, file = b2sum_open(path, 0);
+    const bool is_good = file > STDERR_FILENO && advised == advice + 1 && !(fcntl(file, F_GETFL) & O_NONBLOCK);
+
+    return !close(file) && is_good;
+}
+
+/* The mark is no part of the path, of which each byte is as in one without it. What only begins like it is a path. */
+static void check_marks(void) {
+    char path[PATH_ROOM + 1] = "";
+
+    for (int i = 0; i < 2046; i++) strcpy(path + 2 * i, "./");
+    strcat(path, "one");
+    make_file("one", 1);
+    CHECK(strlen(path) == PATH_ROOM - 1 && !error_ahead(path));
+    strcat(path, "/");
+    CHECK(error_unopened(path) == ENAMETOOLONG);
+    make_file("caf\xe9", 1);
+    CHECK(!error_ahead("caf\xf4\x8f\xbf\xa9"));
+    make_file(AHEAD "x", 1);
+    CHECK(!error_ahead("\xf4\x8f\xbf\xb4\xf4\x8f\xbe\x8f\xf4\x8f\xbe\xbc\xf4\x8f\xbe\x80x"));
+    make_file("\xf4\x8f\xbc\x81y", 1);
+    make_file("\xf4\x8f\xbcz", 1);
+    make_file("\xff", 1);
+    CHECK(opens_in_turn("\xf4\x8f\xbc\x81y") && opens_in_turn("\xf4\x8f\xbcz") && opens_in_turn("\xf4\x8f\xbf\xbf"));
+    has_device_names = true;
+    CHECK(error_unopened("//dev/null") == EACCES && !error_ahead("one"));
+    has_device_names = false;
+}
+
+/* Without the mark any file is opened, and the system is told how it is read. A standard stream that is closed stays
+ * so. */
+static void check_ahead(void) {
+    const int input = dup(STDIN_FILENO);
+    int file;
+
+    check_kinds();
+    check_others();
+    check_output();
+    check_marks();
+    CHECK(opens_in_turn("more") && opens_in_turn("none") && opens_in_turn("folder"));
+    close(STDIN_FILENO);
+    file = b2sum_open(AHEAD "one", 0);
+    CHECK(file > STDERR_FILENO && !close(file) && dup(input) == STDIN_FILENO && !close(input));
+}
+
 int main(void) {
     check_progress();
     check_length();
@@ -354,6 +568,7 @@ int main(void) {
     check_room();
     check_warnings();
     check_memory();
-    check_stack();
+    check_ahead();
+    check_stack(); /* the last one, since it closes the outputs */
     return fails != 0;
 }

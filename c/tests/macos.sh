@@ -18,6 +18,7 @@ write_sdk() {
     printf '%s\n' '#include <stddef.h>' 'void *memcpy(void *, const void *, size_t);' \
         'void *memmove(void *, const void *, size_t);' 'void *memset(void *, int, size_t);' \
         'int memcmp(const void *, const void *, size_t);' 'int strcmp(const char *, const char *);' \
+        'int strncmp(const char *, const char *, size_t);' \
         'size_t strlen(const char *);' 'char *strcpy(char *, const char *);' \
         'char *strchr(const char *, int);' 'char *strrchr(const char *, int);' 'char *strerror(int);' \
         >"$sdk/usr/include/string.h"
@@ -29,10 +30,11 @@ write_sdk() {
         'enum { SEEK_SET, SEEK_CUR, STDIN_FILENO = 0, STDOUT_FILENO, STDERR_FILENO };' \
         >"$sdk/usr/include/unistd.h"
     printf '%s\n' 'int openat(int, const char *, int, ...);' \
-        'enum { O_RDONLY = 0, O_CLOEXEC = 0x1000000, AT_FDCWD = -2 };' >"$sdk/usr/include/fcntl.h"
+        'enum { O_RDONLY = 0, O_NONBLOCK = 4, O_CLOEXEC = 0x1000000, AT_FDCWD = -2 };' >"$sdk/usr/include/fcntl.h"
     printf '%s\n' '#include <sys/types.h>' \
-        'struct stat { int st_mode; off_t st_size; char more[128]; };' \
-        'int fstat(int, struct stat *);' '#define S_ISREG(m) (((m) & 0170000) == 0100000)' \
+        'struct stat { int st_dev, st_mode; unsigned long long st_ino; off_t st_size; char more[112]; };' \
+        'int stat(const char *, struct stat *), fstat(int, struct stat *);' \
+        '#define S_ISREG(m) (((m) & 0170000) == 0100000)' \
         'enum { S_IRGRP = 040, S_IROTH = 04 };' \
         >"$sdk/usr/include/sys/stat.h"
     printf '%s\n' '#include <stddef.h>' '#include <sys/types.h>' \
@@ -60,8 +62,8 @@ write_sdk() {
         '#define PTHREAD_MUTEX_INITIALIZER {0, {0}}' '#define PTHREAD_COND_INITIALIZER {0, {0}}' \
         >"$sdk/usr/include/pthread.h"
     printf '%s\n' 'int *__error(void);' '#define errno (*__error())' \
-        'enum { EINTR = 4, EIO, EBADF = 9, ENOMEM = 12, EACCES, EINVAL = 22, EFBIG = 27, ENAMETOOLONG = 63,' \
-        'ECANCELED = 89 };' >"$sdk/usr/include/errno.h"
+        'enum { EINTR = 4, EIO, EBADF = 9, ENOMEM = 12, EACCES, EINVAL = 22, EFBIG = 27, EAGAIN = 35,' \
+        'ENAMETOOLONG = 63, ECANCELED = 89 };' >"$sdk/usr/include/errno.h"
     printf '%s\n' 'void (*signal(int, void (*)(int)))(int);' 'typedef unsigned sigset_t;' \
         'int pthread_sigmask(int, const sigset_t *, sigset_t *);' \
         '#define sigfillset(set) (*(set) = ~0u, 0)' '#define sigdelset(set, n) (*(set) &= ~(1u << ((n) - 1)), 0)' \

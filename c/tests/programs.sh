@@ -14,7 +14,7 @@ functions_of_program() {
 functions_of_b2sum() {
     cc -O2 -g "${warnings[@]}" -D{ABSORB_TREE=absorb,PROVED_TREE=proved}.tree -DHIDE_MEMORY=hide.memory \
         -DSHOW_PROGRESS=show.progress -I"$include" "$tests/b2sum.c" "$archive" -o "$work/sums" "$@" &&
-        timeout 60 "$work/sums"
+        rm -rf "$work/files" && mkdir "$work/files" && (cd "$work/files" && timeout 60 "$work/sums")
 }
 
 # Whether b2sum has no function that the rest of its process would get instead of one of the C
