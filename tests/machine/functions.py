@@ -31,6 +31,7 @@ SQUEEZES = tuple("blake2_xof..%s..State..squeeze" % family for family in ("blake
 
 # What the programs call of the library's text, besides what C programs call.
 SHARED = (ONE_B[0], ONE_S[0], "blake2_tree..nodes..Nodes..hash_next", *SQUEEZES,
+          *("blake2_state..many..%s..update_many" % family for family in ("blake2b", "blake2s")),
           *("blake2_parallel..lanes..%s..Lanes..%s" % (family, call)
             for family in ("blake2bp", "blake2sp") for call in ("outputs", "update")))
 
