@@ -47,7 +47,8 @@ INDEXED = re.compile(r"[\t ,]-\w+\(%rsp,")
 FAMILIES = ("blake2b", "blake2s")
 # The functions of the library that hash for both programs, for b2sum alone and for b2 alone, in the order of names.
 HASHING = [*(f"blake2_compress..compress..{it}..compress" for it in FAMILIES), "blake2_tree..nodes..Nodes..hash_next"]
-LEAVES = [f"blake2_parallel..lanes..{it}p..Lanes..{what}" for it in FAMILIES for what in ("outputs", "update")]
+LANES = [*(f"blake2_parallel..lanes..{it}p..Lanes..{what}" for it in FAMILIES for what in ("outputs", "update")),
+         *(f"blake2_state..many..{it}..update_many" for it in FAMILIES)]
 OUTPUTS = [f"blake2_xof..blake2x{it}..State..squeeze" for it in "bs"]
 # The compressions of several messages of BLAKE2b that each build has.
 FOUR = "blake2_compress..many..blake2b..compress_blocks"
@@ -110,7 +111,7 @@ class Text:
         self.is_library, self.is_sums = "/vulfsjor" in name, "/b2sum" in name
         self.code, self.outside = functions_of_text(self.text.split("\n")), set(OUTSIDE.findall(self.text))
         # The functions of the library that hash for a program, or for both.
-        self.hashing = sorted(HASHING + LEAVES * ("/b2." not in name) + OUTPUTS * (not self.is_sums))
+        self.hashing = sorted(HASHING + LANES * ("/b2." not in name) + OUTPUTS * (not self.is_sums))
         self.called_hashing = {f"{it}_{self.end.replace('a64', 'arm')}" for it in self.hashing}
 
     def after(self, macro):

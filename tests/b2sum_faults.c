@@ -5,8 +5,12 @@
  *                that it is read from its start to its end
  *   FAULT_AT     the number of the first call that fails, from 1
  *   FAULT_LAST   the number of the last one that does
- *   FAULT_ERROR  its errno; 0: it reads or writes one byte; -1: it returns 0, as at the end
- *   FAULT_OUT    a file that is made if a call fails
+ *   FAULT_ERROR  its errno; 0: it reads or writes one byte; -1: it returns 0, as at the end; -2: the process stops
+ *                before it, and does not fail
+ *   FAULT_OUT    a file that is made if a call fails: with a plus, if that is an openat or a readv before the file's
+ *                turn
+ *   FAULT_LOG    a file that gets a line for each openat, `open NAME`, or `ahead NAME` before the file's turn, and for
+ *                each write to standard output, `write`
  *   FAULT_KEY    the digits of the bytes of the key, each of them exclusive or 0xFF. Then no call fails, and the file
  *                gets three numbers: of the pieces of 8 bytes of the key that were found, of PR_GET_DUMPABLE, and of
  *                the bytes that a core file may have (0 or 1: more)
@@ -17,6 +21,7 @@
 #define _GNU_SOURCE
 #include <errno.h>
 #include <fcntl.h>
+#include <signal.h>
 #include <stdio.h>
 #include <stdlib.h>
 #include <string.h>
@@ -69,8 +74,22 @@ static unsigned long found_in_all(const char *digits) {
     return found;
 }
 
-/* Whether this call is one of those that fail. */
-static int is_hit(const char *call) {
+/* Appends the line of a call to the log, if there is one. */
+static void log_call(const char *call, const char *name) {
+    const char *log = getenv("FAULT_LOG");
+    char line[4200];
+    int file, length;
+
+    if (!log) return;
+    length = snprintf(line, sizeof line, "%s%s\n", call, name);
+    file = (int)syscall(SYS_openat, AT_FDCWD, log, O_CREAT | O_WRONLY | O_APPEND, 0600);
+    syscall(SYS_write, file, line, length);
+    syscall(SYS_close, file);
+}
+
+/* Whether this call, over a file that was opened with these flags, is one of those that fail. A file before its turn is
+ * opened with O_NONBLOCK. */
+static int is_hit_over(const char *call, int flags) {
     static long calls;
     const char *wanted = getenv("FAULT_CALL"), *key = getenv("FAULT_KEY");
     struct rlimit core;
@@ -87,17 +106,22 @@ static int is_hit(const char *call) {
         count = sprintf(line, "%lu %ld %d\n", found_in_all(key), syscall(SYS_prctl, PR_GET_DUMPABLE),
                         core.rlim_max != 0);
         syscall(SYS_write, file, line, count);
+    } else if (flags & O_NONBLOCK) {
+        syscall(SYS_write, file, "+", 1);
     }
     syscall(SYS_close, file);
+    if (number_variable("FAULT_ERROR") == -2) return raise(SIGSTOP);
     errno = (int)number_variable("FAULT_ERROR");
     return !key;
 }
 
+static int is_hit(const char *call) { return is_hit_over(call, 0); }
+
 /* Whether this call fails, or returns 0; or else how many bytes it reads or writes at most. */
-static int ends(const char *call, size_t *size, long *result) {
+static int ends(const char *call, int flags, size_t *size, long *result) {
     const long error = number_variable("FAULT_ERROR");
 
-    if (!is_hit(call)) return 0;
+    if (!is_hit_over(call, flags)) return 0;
     if (!error && *size > 1) *size = 1;
     *result = error < 0 ? 0 : -1;
     return error != 0;
@@ -107,25 +131,28 @@ ssize_t readv(int file, const struct iovec *room, int count) {
     struct iovec first = *room;
     long result;
 
-    return ends("readv", &first.iov_len, &result) ? result : syscall(SYS_readv, file, &first, count);
+    return ends("readv", fcntl(file, F_GETFL), &first.iov_len, &result) ? result
+                                                                        : syscall(SYS_readv, file, &first, count);
 }
 
 ssize_t pread(int file, void *bytes, size_t size, off_t from) {
     long result;
 
-    return ends("pread", &size, &result) ? result : syscall(SYS_pread64, file, bytes, size, from);
+    return ends("pread", 0, &size, &result) ? result : syscall(SYS_pread64, file, bytes, size, from);
 }
 
 ssize_t write(int file, const void *bytes, size_t size) {
     long result;
 
-    return ends("write", &size, &result) ? result : syscall(SYS_write, file, bytes, size);
+    if (file == STDOUT_FILENO) log_call("write", "");
+    return ends("write", 0, &size, &result) ? result : syscall(SYS_write, file, bytes, size);
 }
 
 ssize_t __write(int file, const void *bytes, size_t size) { return write(file, bytes, size); }
 
 int openat(int folder, const char *name, int flags, ...) {
-    return is_hit("openat") ? -1 : (int)syscall(SYS_openat, folder, name, flags, 0);
+    log_call(flags & O_NONBLOCK ? "ahead " : "open ", name);
+    return is_hit_over("openat", flags) ? -1 : (int)syscall(SYS_openat, folder, name, flags, 0);
 }
 
 int prctl(int option, ...) { return is_hit("prctl") ? -1 : (int)syscall(SYS_prctl, option, 0L, 0L, 0L, 0L); }

@@ -19,7 +19,8 @@ import re
 import shutil
 import subprocess
 
-from b2sum_support import FILES, both_digests, check_line, digest, line, lines, longest, root_line, run_tests
+from b2sum_support import (
+    FILES, both_digests, check_line, digest, line, lines, longest, root_line, run_tests, shown_of)
 from common import TOP
 from oracle import parallel_by_hashlib
 
@@ -558,19 +559,6 @@ def random_check(rng, runs):
     is_strict = "--strict" in check.options or "key" in check.given
     runs.wants(words, out, err + warnings(counts, lacks, check), int(bool(fails or is_strict and counts["malformed"])),
                os.fsencode(text))
-
-
-def shown_of(name, data, shape, family, bits, given):
-    """What is printed of a file with these options."""
-    found = digest(family, data, bits // 8, **given)
-    if "--raw" in shape:
-        return found
-    end = "\0" if "-z" in shape else "\n"
-    if "--no-names" in shape:
-        return (found.hex() + end).encode()
-    text = line("NAME" if "-z" in shape else name, data, bits, family, "*" if "-b" in shape else " ", "--tag" in shape,
-                **given)
-    return os.fsencode(text.removesuffix("\n").replace("NAME", name) + end)
 
 
 def random_sum(rng, runs):

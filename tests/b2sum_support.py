@@ -6,6 +6,7 @@ import hashlib
 import os
 import resource
 import shutil
+import signal
 import subprocess
 import sys
 import tempfile
@@ -94,6 +95,42 @@ class Runs:
         self.wrong, self.count = [], 0
 
 
+@contextlib.contextmanager
+def filled_pipe(runs, name, commands):
+    """Commands of a shell write to a pipe, and are ended: they wait for a reader if there was none."""
+    process = subprocess.Popen(["sh", "-c", f"exec >{name}; {commands}"], cwd=runs.folder, start_new_session=True)
+    try:
+        yield
+    finally:
+        os.killpg(process.pid, signal.SIGKILL)
+        process.wait()
+
+
+def fault_variables(runs, call="", at=0, last=0, error=0, key=""):
+    """The environment for a run in which these calls of a function fail, if any: see tests/b2sum_faults.c."""
+    return {"LC_ALL": "C", "LD_PRELOAD": os.environ["FAULTS"], "FAULT_CALL": call, "FAULT_AT": str(at),
+            "FAULT_LAST": str(last), "FAULT_ERROR": str(error), "FAULT_OUT": runs.path("out"),
+            **({"FAULT_KEY": key} if key else {})}
+
+
+def outcome_of_fault(runs, words, data, call, at, last, error, called="b2sum", key="", **more):
+    """A run in which these calls of a function fail, and what is said of them; or nothing if it makes no such call."""
+    got = runs.run(words, data, called, env=fault_variables(runs, call, at, last, error, key), **more)
+    out = runs.path("out")
+    if not os.path.exists(out):
+        return None
+    with open(out, encoding="ascii") as file:
+        said = file.read()
+    os.remove(out)
+    return got, said
+
+
+def run_with_fault(runs, *given, **more):
+    """The same run, with a key to look for and what is said of that; without a key only the run."""
+    found = outcome_of_fault(runs, *given, **more)
+    return found if more.get("key") else found and found[0]
+
+
 def escaped(name):
     for byte, text in (("\\", "\\\\"), ("\n", "\\n"), ("\r", "\\r")):
         name = name.replace(byte, text)
@@ -128,6 +165,19 @@ def line(name, data, bits=512, family="b", mark=" ", tag=False, **parameters):
         tag = f"BLAKE2{'b-' * family.startswith('tree-')}{family}{needs_of_tag(**parameters)}"
         return f"{start}{tag}{'' if bits == longest(family) else f'-{bits}'} ({escaped(name)}) = {digits}\n"
     return f"{start}{digits} {mark}{escaped(name)}\n"
+
+
+def shown_of(name, data, shape, family, bits, given):
+    """What is printed of a file with these options."""
+    found = digest(family, data, bits // 8, **given)
+    if "--raw" in shape:
+        return found
+    end = "\0" if "-z" in shape else "\n"
+    if "--no-names" in shape:
+        return (found.hex() + end).encode()
+    text = line("NAME" if "-z" in shape else name, data, bits, family, "*" if "-b" in shape else " ", "--tag" in shape,
+                **given)
+    return os.fsencode(text.removesuffix("\n").replace("NAME", name) + end)
 
 
 def check_line(name, outcome="OK"):

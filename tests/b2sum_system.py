@@ -8,7 +8,6 @@ Only the first program is tested: the others are the same program, with older bu
 
 usage: tests/b2sum_system.py [PROGRAM..]
 """
-import contextlib
 import errno
 import itertools
 import mmap
@@ -19,7 +18,8 @@ import signal
 import socket
 import subprocess
 
-from b2sum_support import FILES, check_line, line, lines, root_line, run_tests
+from b2sum_support import (
+    FILES, check_line, filled_pipe, line, lines, outcome_of_fault, root_line, run_tests, run_with_fault)
 
 HUGE = bool(os.environ.get("VULFSJOR_TEST_HUGE"))
 CALLS = {"readv": errno.EIO, "openat": errno.EACCES, "write": errno.ENOSPC, "malloc": errno.ENOMEM,
@@ -78,15 +78,6 @@ def test_secrets(runs):
     runs.holds(["memory that is not hidden"], got == said, got)
     runs.holds(["no key is hidden"], not run_with_fault(runs, ["b"], b"", "prctl", 1, 1, errno.EPERM))
     runs.ends("keys in memory")
-
-
-@contextlib.contextmanager
-def filled_pipe(runs, name, commands):
-    """Commands of a shell write to a pipe, and are ended: they wait for a reader if there was none."""
-    process = subprocess.Popen(["sh", "-c", f"exec >{name}; {commands}"], cwd=runs.folder)
-    yield
-    process.kill()
-    process.wait()
 
 
 def test_system(runs):
@@ -330,32 +321,23 @@ def test_memory(runs):
 
 # ---- Faults.
 
-def run_with_fault(runs, words, data, call, at, last, error, called="b2sum", key="", **more):
-    """A run in which these calls of a function fail, or nothing if it makes no such call; with a key to look for, and
-    what is said of that."""
-    out = runs.path("out")
-    variables = {"LC_ALL": "C", "LD_PRELOAD": os.environ["FAULTS"], "FAULT_CALL": call, "FAULT_AT": str(at),
-                 "FAULT_LAST": str(last), "FAULT_ERROR": str(error), "FAULT_OUT": out}
-    got = runs.run(words, data, called, env={**variables, **({"FAULT_KEY": key} if key else {})}, **more)
-    if not os.path.exists(out):
-        return None
-    with open(out, encoding="ascii") as file:
-        said = file.read()
-    os.remove(out)
-    return (got, said) if key else got
-
-
 def check_faults(runs, words, data, good, call, error):
-    """The first call of a function fails, the second, and so on; each alone, and with all later ones."""
+    """The first call of a function fails, the second, and so on; each alone, and with all later ones. One that fails
+    before the turn of its file changes nothing, since the file is read again in its turn; so may one for memory. With
+    --progress there is none of these."""
+    whole, in_turn = runs.run(words, data), "--progress" in words
     for at in itertools.count(1):
         for last in (at, 1 << 30):
-            got = run_with_fault(runs, words, data, call, at, last, error)
-            if not got:
+            found = outcome_of_fault(runs, words, data, call, at, last, error)
+            if not found:
                 runs.holds([*words, call], at > 1, "it is never called")
                 return
-            whole = set(got[0].splitlines(keepends=True))
-            runs.holds([*words, call, at, last, error],
-                       got[2] == 1 and whole <= good and names_the_cause(call, error, got[1]), got)
+            got, is_early = found[0], found[1] == "+"
+            fails = (got[2] == 1 and set(got[0].splitlines(keepends=True)) <= good and
+                     names_the_cause(call, error, got[1]))
+            may_pass = not in_turn and call in ("malloc", "realloc")
+            runs.holds([*words, call, at, last, error, found[1]], not (in_turn and is_early) and (
+                got == whole if last == at and (is_early or may_pass and not fails) else fails), got)
 
 
 def test_faults(runs):
@@ -363,10 +345,19 @@ def test_faults(runs):
     sums = os.fsencode(lines())
     runs.write("sums", sums)
     names = [b"a", b"b", b"\\with\\nline", b"caf\xff"]
-    outcomes = {name + end for name in names for end in (b": OK\n", b": FAILED open or read\n")}
-    for words, data, good in (([*FILES, "-"], b"abc", {*(sums + os.fsencode(line("-", b"abc"))).splitlines(True)}),
-                              (["-c", "sums"], b"", outcomes), (["-c"], sums, outcomes),
-                              (["-c", "--ignore-missing", "--strict", "-w", "sums", "sums"], b"", outcomes)):
+    early = {f"early{i}": b"%d" % i * 3000 for i in range(12)}
+    for name, data in early.items():
+        runs.write(name, data)
+    sums_of_early = os.fsencode("".join(line(name, data) for name, data in early.items()))
+    outcomes = {name + end for name in (*names, *map(os.fsencode, early))
+                for end in (b": OK\n", b": FAILED open or read\n")}
+    for (words, data, good), more in itertools.product((
+            ([*FILES, "-"], b"abc", {*(sums + os.fsencode(line("-", b"abc"))).splitlines(True)}),
+            (["-c", "sums"], b"", outcomes), (["-c"], sums, outcomes),
+            (["-c", "--ignore-missing", "--strict", "-w", "sums", "sums"], b"", outcomes),
+            ([*early], b"", {*sums_of_early.splitlines(True)}), (["-c"], sums_of_early, outcomes)),
+            ([], ["--progress"])):
+        words = [*more, *words]
         whole = runs.run(words, data)
         runs.holds(words, whole[1:] == (b"", 0) and not b"FAILED" in whole[0], whole)
         for call, error in CALLS.items():

@@ -154,6 +154,20 @@ def of_threads():
             ("a buffer of {} or four leaves, at most {}", size(part), size(most)),
             ("by at most N threads, {} at most", threads), ("those of a file of {} or more", size(least))):
         yield "docs/B2SUM.md", form, *values
+    names = "MOST_FILES", "ENOUGH_BYTES", "LANES", "FIRST_ROOM_BYTES", "MOST_ROOM_BYTES", "WORTH_BYTES", "MOST_PAUSE"
+    files, enough, lanes, first, most, worth, pause = (
+        constant("crates/b2sum_commands/src/ahead.rt", name) for name in names)
+    for form, *values in (
+            ("a regular file of 1 byte to {} is read early", size(constant("c/b2sum.c", "AHEAD_BYTES"))),
+            ("are groups of up to {}, {} and {} files, and then of up to {}.", lanes, 2 * lanes, 4 * lanes, files),
+            ("after a multiple of {} files that have at least {} together", lanes, size(enough)),
+            ("Its memory has {}, and twice as much, up to {}, each time", size(first), size(most)),
+            ("fewer than {} a file, or that begins with a file that is not read early, the next {} files", size(worth),
+             files),
+            ("after the next such group more, up to {}.", f"{pause:,}"),
+            ("had up to {} lines before its own", files - 1), ("at most {} files were read in vain", files),
+            ("[several files](#several-files) it needs up to {} more", size(most))):
+        yield "docs/B2SUM.md", form, *values
 
 
 def of_families():
