@@ -1,8 +1,9 @@
-/* The C of the program b2sum, together with b2.c: how it opens and reads files, the threads of
- * --tree, what --progress shows, how it keeps keys from others, and how it ends. The assembly file
- * calls b2sum_open, b2sum_read and b2sum_signal instead of open, read and signal of the C library,
- * and the functions here instead of its own absorb_tree, hide_memory and show_progress. None of
- * this is proved. tests/b2sum.c, ../tests/b2sum_system.py and b2sum_ahead.py test it.
+/* The C of the program b2sum, together with b2.c: how it opens and reads files and lists folders, the
+ * threads of --tree, what --progress shows, how it keeps keys from others, and how it ends. The
+ * assembly file calls b2sum_open, b2sum_read, b2sum_close and b2sum_signal instead of open, read,
+ * close and signal of the C library, and the functions here instead of its own absorb_tree,
+ * hide_memory and show_progress. None of this is proved. tests/b2sum.c, ../tests/b2sum_system.py,
+ * b2sum_ahead.py and b2sum_folders.py test it.
  *
  * ABSORB_TREE, HIDE_MEMORY and SHOW_PROGRESS are the names of these functions in the assembly file,
  * such as b2sum..disk..hide_memory_1_x86. */
@@ -103,13 +104,6 @@ OF_TEXT void (*b2sum_signal(int number, void (*handler)(int)))(int) {
 
 /* The error of the first close of a file that failed, or 0. */
 static int close_error;
-
-OF_TEXT int b2sum_close(int file) {
-    const int result = close(file);
-
-    if (result && !close_error) close_error = errno;
-    return result;
-}
 
 OF_TEXT int b2sum_strerror(int error, char *text, size_t size) {
     snprintf(text, size, "%s", strerror(error));
@@ -347,15 +341,111 @@ static int move_up(int file) {
 #define AHEAD "\xf4\x8f\xbc\x80"
 enum { AHEAD_BYTES = 1 << 20 };
 
-/* Opens the file for reading, from its start to its end. Returns its descriptor, or -1 and sets
- * errno. On Windows it refuses a device or another computer that no argument names: a manifest can
- * be a stranger's. The path has a frame of its own, so that the stack is wiped below that of b2sum_open. */
+/* What a path begins with whose folder is to be listed, the character U+10FF01. What is read of it
+ * are its entries, in any order: for each its kind as in system.h, its name, and a zero byte. */
+#define LIST "\xf4\x8f\xbc\x81"
+
+/* A folder that is listed: its descriptor; its entries; of the one that is being read the kind, or 0
+ * once that is read, and the rest of its name, or null if all of it is read; and the error that has
+ * ended the list, or 0. */
+typedef struct list {
+    struct list *next;
+    int file;
+    folder folder;
+    char kind;
+    const char *rest;
+    int error;
+} list;
+
+/* The lists that are open. */
+static list *lists;
+
+/* The place of the list that has this descriptor, or of the null that ends the lists. */
+static list **place_of_list(int file) {
+    list **place = &lists;
+
+    while (*place && (*place)->file != file) place = &(*place)->next;
+    return place;
+}
+
+/* Begins the list of the folder that is open as this file and has this path. Returns the descriptor,
+ * or closes it, returns -1 and sets errno. */
+static int begin_list(int file, const char *path) {
+    list *const it = malloc(sizeof *it);
+    int error;
+
+    if (it && begin_folder(&it->folder, file, path)) {
+        it->next = lists;
+        it->file = file;
+        it->rest = NULL;
+        it->error = 0;
+        lists = it;
+        return file;
+    }
+    error = errno;
+    free(it);
+    close(file);
+    errno = error;
+    return -1;
+}
+
+/* Whether the list has another byte. After an error it has none: entries may have been left out. */
+static bool has_byte(list *it) {
+    if (it->rest || it->error) return it->rest;
+    it->rest = next_entry(&it->folder, &it->kind);
+    if (!it->rest) it->error = errno;
+    return it->rest;
+}
+
+static char next_byte(list *it) {
+    const char byte = it->kind ? it->kind : *it->rest++;
+
+    it->kind = 0;
+    if (!byte) it->rest = NULL;
+    return byte;
+}
+
+/* Reads at most size bytes of the list. Returns their number, 0 at the end, or -1 and sets errno: an
+ * error comes after all entries that were read before it. */
+static ssize_t read_list(list *it, char *bytes, size_t size) {
+    size_t filled = 0;
+
+    while (filled < size && has_byte(it)) bytes[filled++] = next_byte(it);
+    if (filled || !it->error) return (ssize_t)filled;
+    errno = it->error;
+    return -1;
+}
+
+static int close_list(list **place) {
+    list *const it = *place;
+    const int result = close_folder(&it->folder), error = errno;
+
+    *place = it->next;
+    free(it);
+    errno = error;
+    return result;
+}
+
+OF_TEXT int b2sum_close(int file) {
+    list **const place = place_of_list(file);
+    const int result = *place ? close_list(place) : close(file);
+
+    if (result && !close_error) close_error = errno;
+    return result;
+}
+
+/* Opens the file for reading, from its start to its end, or begins the list of a folder. Returns its
+ * descriptor, or -1 and sets errno. On Windows it refuses a device or another computer that no
+ * argument names: a manifest can be a stranger's. The path has a frame of its own, so that the stack
+ * is wiped below that of b2sum_open. */
 __attribute__((noinline)) static int open_file(const char *name) {
-    const bool is_ahead = !strncmp(name, AHEAD, strlen(AHEAD));
+    const bool is_ahead = !strncmp(name, AHEAD, strlen(AHEAD)),
+               is_list = !strncmp(name, LIST, strlen(LIST));
     char path[PATH_ROOM];
     int file;
 
     if (is_ahead) name += strlen(AHEAD);
+    if (is_list) name += strlen(LIST);
     if (strlen(name) >= sizeof path) {
         errno = ENAMETOOLONG;
         return -1;
@@ -366,10 +456,11 @@ __attribute__((noinline)) static int open_file(const char *name) {
         errno = EACCES;
         return -1;
     }
-    do file = is_ahead ? open_plain(path, AHEAD_BYTES) : open_path(path);
+    do file = is_list ? open_folder(path) : is_ahead ? open_plain(path, AHEAD_BYTES) : open_path(path);
     while (file < 0 && errno == EINTR);
     file = move_up(file);
     if (file < 0) return -1;
+    if (is_list) return begin_list(file, path);
     if (!is_ahead) read_ahead(file);
     if (is_key_next && is_shared(file)) strcpy(shared_key, path);
     if (is_shown) begin_progress(file, path);
@@ -431,9 +522,12 @@ static ssize_t end_read(void) {
     return errno == AT_END ? 0 : -1;
 }
 
-/* As read_piece, or with is_filling as read_full. */
+/* Reads a list, or else as read_piece, or with is_filling as read_full. */
 OF_TEXT ssize_t b2sum_read(int file, void *bytes, size_t size) {
+    list *const it = *place_of_list(file);
+
     if (is_secret) wipe_stack();
+    if (it) return read_list(it, bytes, size);
     if (file == STDIN_FILENO) is_input_read = true;
     is_key_next = false;
     if (ended != NOT_ENDED) return end_read();

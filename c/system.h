@@ -18,7 +18,11 @@
 #include <sys/types.h>
 #include <unistd.h>
 
+/* Whether this is the name of the folder itself or of the one above, which every folder has. */
+static inline bool is_dots(const char *name) { return !strcmp(name, ".") || !strcmp(name, ".."); }
+
 #ifndef _WIN32
+#include <dirent.h>
 #include <pthread.h>
 #include <sched.h>
 #include <signal.h>
@@ -151,6 +155,51 @@ static inline int open_plain(const char *path, off_t most) {
     close(file);
     errno = EAGAIN;
     return -1;
+}
+
+/* The entries of a folder, as they are read. */
+typedef struct folder {
+    DIR *entries;
+} folder;
+
+/* Opens a folder, or the one to which a link leads. */
+static inline int open_folder(const char *path) {
+    return openat(AT_FDCWD, path, O_RDONLY | O_DIRECTORY | O_CLOEXEC);
+}
+
+/* Begins to read the folder that is open as this file and has this path. Returns whether it does;
+ * then close_folder closes the file. */
+static inline bool begin_folder(folder *it, int file, const char *path) {
+    (void)path;
+    return (it->entries = fdopendir(file)) != NULL;
+}
+
+static inline int close_folder(folder *it) { return closedir(it->entries); }
+
+/* The kind of an entry: d for a folder, f for a regular file or if the system does not know it, and
+ * o for all others, such as links, which are not followed. */
+static inline char kind_of(int folder, const char *name) {
+    struct stat about;
+    int result;
+
+    do result = fstatat(folder, name, &about, AT_SYMLINK_NOFOLLOW);
+    while (result && errno == EINTR);
+    if (result || S_ISREG(about.st_mode)) return 'f';
+    return S_ISDIR(about.st_mode) ? 'd' : 'o';
+}
+
+/* Returns the name of the next entry, which the next call may overwrite, and sets its kind. Returns
+ * null at the end or after an error, and sets errno to 0 or to that. */
+static inline const char *next_entry(folder *it, char *kind) {
+    const struct dirent *entry;
+
+    do {
+        errno = 0;
+        entry = readdir(it->entries);
+    } while (entry ? is_dots(entry->d_name) : errno == EINTR);
+    if (!entry) return NULL;
+    *kind = kind_of(dirfd(it->entries), entry->d_name);
+    return entry->d_name;
 }
 
 /* Tells the system that a file is read from its start to its end. */
@@ -361,6 +410,97 @@ static inline int open_plain(const char *path, off_t most) {
     (void)most;
     errno = EAGAIN;
     return -1;
+}
+
+/* The entries of a folder, as they are read: a file that stands for it, what reads them, the last
+ * one, whether that is yet to be returned, and its name in UTF-8. */
+typedef struct folder {
+    int file;
+    HANDLE entries;
+    WIN32_FIND_DATAW entry;
+    bool is_new;
+    char name[3 * MAX_PATH];
+} folder;
+
+/* Opens a file that stands for the folder of this path. */
+static inline int open_folder(const char *name) {
+    wchar_t *const room = malloc(2 * LONGEST_PATH * sizeof *room);
+    const wchar_t *const path = room ? wide_path(name, room) : NULL;
+    int file = -1;
+
+    if (path) {
+        const DWORD about = GetFileAttributesW(path);
+        if (about == INVALID_FILE_ATTRIBUTES) {
+            errno = number_of(GetLastError());
+        } else if (!(about & FILE_ATTRIBUTE_DIRECTORY)) {
+            errno = ENOTDIR;
+        } else {
+            file = _open("NUL", _O_RDONLY | _O_BINARY | _O_NOINHERIT);
+        }
+    }
+    free(room);
+    return file;
+}
+
+/* Finds the first entry, by the path of all of them. The root of a drive may have none. */
+static inline bool find_first(folder *it, const char *name, wchar_t *room) {
+    const wchar_t *const path = wide_path(name, room);
+    DWORD error;
+
+    if (!path) return false;
+    it->entries = FindFirstFileW(path, &it->entry);
+    it->is_new = it->entries != INVALID_HANDLE_VALUE;
+    error = it->is_new ? 0 : GetLastError();
+    errno = number_of(error);
+    return it->is_new || error == ERROR_FILE_NOT_FOUND;
+}
+
+/* The path of all entries of C: is C:/, as those of its entries. */
+static inline bool begin_folder(folder *it, int file, const char *path) {
+    const size_t length = strlen(path);
+    const bool has_slash = length && strchr("/\\", path[length - 1]);
+    wchar_t *const room = malloc(2 * LONGEST_PATH * sizeof *room);
+    char *const all = malloc(length + 3);
+    bool is_begun = false;
+
+    it->file = file;
+    if (room && all) {
+        memcpy(all, path, length);
+        strcpy(all + length, has_slash ? "*" : "/*");
+        is_begun = find_first(it, all, room);
+    }
+    free(all);
+    free(room);
+    return is_begun;
+}
+
+static inline int close_folder(folder *it) {
+    if (it->entries != INVALID_HANDLE_VALUE) FindClose(it->entries);
+    return _close(it->file);
+}
+
+/* What stands for another path, such as a link or a junction, is neither a folder nor a file. */
+static inline char kind_of(const WIN32_FIND_DATAW *entry) {
+    const bool is_reparsed = entry->dwFileAttributes & FILE_ATTRIBUTE_REPARSE_POINT;
+
+    if (is_reparsed && IsReparseTagNameSurrogate(entry->dwReserved0)) return 'o';
+    return entry->dwFileAttributes & FILE_ATTRIBUTE_DIRECTORY ? 'd' : 'f';
+}
+
+/* In the name U+FFFD replaces what is not Unicode, as in arguments. */
+static inline const char *next_entry(folder *it, char *kind) {
+    errno = 0;
+    if (it->entries == INVALID_HANDLE_VALUE) return NULL;
+    do {
+        if (!it->is_new && !FindNextFileW(it->entries, &it->entry)) {
+            if (GetLastError() != ERROR_NO_MORE_FILES) errno = number_of(GetLastError());
+            return NULL;
+        }
+        it->is_new = false;
+        WideCharToMultiByte(CP_UTF8, 0, it->entry.cFileName, -1, it->name, sizeof it->name, NULL, NULL);
+    } while (is_dots(it->name));
+    *kind = kind_of(&it->entry);
+    return it->name;
 }
 
 static inline void read_ahead(int file) { (void)file; }

@@ -1,16 +1,16 @@
 /* A library to preload into b2sum: some calls of one function of the system fail, or the memory that the process can
  * write is searched for a key at one of them.
  *
- *   FAULT_CALL   readv, pread, openat, write, close, malloc, realloc, prctl, or posix_fadvise that says of a whole file
- *                that it is read from its start to its end
+ *   FAULT_CALL   readv, pread, openat, write, close, malloc, realloc, prctl, readdir, or posix_fadvise that says of a
+ *                whole file that it is read from its start to its end
  *   FAULT_AT     the number of the first call that fails, from 1
  *   FAULT_LAST   the number of the last one that does
  *   FAULT_ERROR  its errno; 0: it reads or writes one byte; -1: it returns 0, as at the end; -2: the process stops
  *                before it, and does not fail
  *   FAULT_OUT    a file that is made if a call fails: with a plus, if that is an openat or a readv before the file's
  *                turn
- *   FAULT_LOG    a file that gets a line for each openat, `open NAME`, or `ahead NAME` before the file's turn, and for
- *                each write to standard output, `write`
+ *   FAULT_LOG    a file that gets a line for each openat, `open NAME`, or `ahead NAME` before the file's turn, or
+ *                `list NAME` of a folder, and for each write to standard output, `write`
  *   FAULT_KEY    the digits of the bytes of the key, each of them exclusive or 0xFF. Then no call fails, and the file
  *                gets three numbers: of the pieces of 8 bytes of the key that were found, of PR_GET_DUMPABLE, and of
  *                the bytes that a core file may have (0 or 1: more)
@@ -19,6 +19,7 @@
  * first call, the dynamic linker saves the vector registers on the stack, and with them pieces of the key, which then
  * are counted though the program has not left them. */
 #define _GNU_SOURCE
+#include <dirent.h>
 #include <errno.h>
 #include <fcntl.h>
 #include <signal.h>
@@ -151,8 +152,14 @@ ssize_t write(int file, const void *bytes, size_t size) {
 ssize_t __write(int file, const void *bytes, size_t size) { return write(file, bytes, size); }
 
 int openat(int folder, const char *name, int flags, ...) {
-    log_call(flags & O_NONBLOCK ? "ahead " : "open ", name);
+    log_call(flags & O_NONBLOCK ? "ahead " : flags & O_DIRECTORY ? "list " : "open ", name);
     return is_hit_over("openat", flags) ? -1 : (int)syscall(SYS_openat, folder, name, flags, 0);
+}
+
+/* Without an error it is the end of the folder. */
+struct dirent *readdir(DIR *folder) {
+    if (is_hit("readdir")) return NULL;
+    return (struct dirent *)readdir64(folder); /* which are the same on 64-bit systems */
 }
 
 int prctl(int option, ...) { return is_hit("prctl") ? -1 : (int)syscall(SYS_prctl, option, 0L, 0L, 0L, 0L); }

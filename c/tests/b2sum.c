@@ -1,13 +1,17 @@
 /* Tests what ../b2sum.c does that no run of the program shows: what it shows of progress, to the millisecond and with
- * numbers of all lengths, the room that it needs, what it wipes, and which files it opens before their turn. It
- * includes that file, with a clock, a standard error and functions for memory and files that are replaced, and makes
- * files in the current folder, which is empty. programs.sh has the command; tests/b2sum_system.py and b2sum_ahead.py
- * run the program, and make its calls of the system fail. */
+ * numbers of all lengths, the room that it needs, what it wipes, which files it opens before their turn, and how it
+ * lists folders (b2sum_folders.h). It includes that file, with a clock, a standard error and functions for memory and
+ * files that are replaced, and makes files in the current folder, which is empty. programs.sh has the command;
+ * tests/b2sum_system.py, b2sum_ahead.py and b2sum_folders.py run the program, and make its calls of the system fail. */
 #define _GNU_SOURCE
+#include <dirent.h>
 #include <errno.h>
 #include <fcntl.h>
 #include <stdbool.h>
+#include <stddef.h>
 #include <stdio.h>
+#include <string.h>
+#include <sys/resource.h>
 #include <sys/socket.h>
 #include <sys/stat.h>
 #include <sys/un.h>
@@ -43,6 +47,57 @@ static int fstat_or_fail(int file, struct stat *about) {
     return 0;
 }
 
+/* The same of fstatat, of which all calls fail with this error, and of readdir, of which this one fails; and whether
+ * fdopendir and closedir fail. */
+static int fstatat_interrupts, fstatat_error, readdir_interrupts, readdir_fails_at;
+static bool fdopendir_fails, closedir_fails;
+
+/* How many entries of a folder are made up, and the length of their names without a number at the end. */
+static size_t made_count, made_length;
+
+static int fstatat_or_fail(int folder, const char *name, struct stat *about, int flags) {
+    errno = fstatat_interrupts-- > 0 ? EINTR : fstatat_error;
+    return errno ? -1 : fstatat(folder, name, about, flags);
+}
+
+static struct dirent *make_entry(void) {
+    static union {
+        struct dirent entry;
+        char bytes[2000];
+    } made;
+    char *const name = made.bytes + offsetof(struct dirent, d_name);
+
+    memset(name, 'n', made_length);
+    sprintf(name + made_length, "%zu", --made_count);
+    return &made.entry;
+}
+
+/* At the end errno stays as it is. */
+static struct dirent *readdir_or_fail(DIR *folder) {
+    const bool is_interrupted = readdir_interrupts-- > 0;
+
+    if (!is_interrupted && (!readdir_fails_at || --readdir_fails_at))
+        return made_count ? make_entry() : readdir(folder);
+    errno = is_interrupted ? EINTR : EIO;
+    return NULL;
+}
+
+static DIR *fdopendir_or_fail(int file) {
+    errno = ENOBUFS;
+    return fdopendir_fails ? NULL : fdopendir(file);
+}
+
+static int closedir_or_fail(DIR *folder) {
+    const int result = closedir(folder);
+
+    errno = EDQUOT;
+    return closedir_fails ? -1 : result;
+}
+
+#define fstatat(folder, name, about, flags) fstatat_or_fail(folder, name, about, flags)
+#define readdir(folder) readdir_or_fail(folder)
+#define fdopendir(file) fdopendir_or_fail(file)
+#define closedir(folder) closedir_or_fail(folder)
 #define stat(path, about) stat_or_fail(path, about)
 #define openat(folder, path, flags) openat_or_fail(folder, path, flags)
 #define fstat(file, about) fstat_or_fail(file, about)
@@ -72,11 +127,14 @@ static unsigned char freed[SOME];
 static bool has_no_memory;
 
 static void record_free(void *place) {
-    memcpy(freed, place, size_of_block(place) < SOME ? size_of_block(place) : SOME);
+    if (place) memcpy(freed, place, size_of_block(place) < SOME ? size_of_block(place) : SOME);
     free(place);
 }
 
-static void *malloc_or_fail(size_t size) { return has_no_memory ? NULL : malloc(size); }
+static void *malloc_or_fail(size_t size) {
+    errno = ENOMEM;
+    return has_no_memory ? NULL : malloc(size);
+}
 
 /* Whether the memory can be hidden. */
 static bool is_hidden;
@@ -379,11 +437,13 @@ __attribute__((noinline, no_sanitize("address"))) static int left_on_stack(void)
 static void check_stack(void) {
     char bytes[1];
 
-    for (int call = 0; call < 4; call++) {
+    for (int call = 0; call < 6; call++) {
         leave_on_stack();
         if (call == 1) b2sum_open("/", 0);
         if (call == 2) b2sum_read(99, bytes, 1);
-        if (call == 3) b2sum_end(0, "");
+        if (call == 3) b2sum_open(LIST "/", 0);
+        if (call == 4) b2sum_read(lists->file, bytes, 1);
+        if (call == 5) b2sum_end(0, "");
         CHECK(call ? left_on_stack() < DEEP / 50 : left_on_stack() > DEEP / 2);
     }
 }
@@ -532,10 +592,10 @@ static void check_marks(void) {
     CHECK(!error_ahead("caf\xf4\x8f\xbf\xa9"));
     make_file(AHEAD "x", 1);
     CHECK(!error_ahead("\xf4\x8f\xbf\xb4\xf4\x8f\xbe\x8f\xf4\x8f\xbe\xbc\xf4\x8f\xbe\x80x"));
-    make_file("\xf4\x8f\xbc\x81y", 1);
+    make_file("\xf4\x8f\xbc\x82y", 1);
     make_file("\xf4\x8f\xbcz", 1);
     make_file("\xff", 1);
-    CHECK(opens_in_turn("\xf4\x8f\xbc\x81y") && opens_in_turn("\xf4\x8f\xbcz") && opens_in_turn("\xf4\x8f\xbf\xbf"));
+    CHECK(opens_in_turn("\xf4\x8f\xbc\x82y") && opens_in_turn("\xf4\x8f\xbcz") && opens_in_turn("\xf4\x8f\xbf\xbf"));
     has_device_names = true;
     CHECK(error_unopened("//dev/null") == EACCES && !error_ahead("one"));
     has_device_names = false;
@@ -557,6 +617,8 @@ static void check_ahead(void) {
     CHECK(file > STDERR_FILENO && !close(file) && dup(input) == STDIN_FILENO && !close(input));
 }
 
+#include "b2sum_folders.h"
+
 int main(void) {
     check_progress();
     check_length();
@@ -569,6 +631,7 @@ int main(void) {
     check_warnings();
     check_memory();
     check_ahead();
+    check_folders();
     check_stack(); /* the last one, since it closes the outputs */
     return fails != 0;
 }

@@ -30,11 +30,16 @@ write_sdk() {
         'enum { SEEK_SET, SEEK_CUR, STDIN_FILENO = 0, STDOUT_FILENO, STDERR_FILENO };' \
         >"$sdk/usr/include/unistd.h"
     printf '%s\n' 'int openat(int, const char *, int, ...);' \
-        'enum { O_RDONLY = 0, O_NONBLOCK = 4, O_CLOEXEC = 0x1000000, AT_FDCWD = -2 };' >"$sdk/usr/include/fcntl.h"
+        'enum { O_RDONLY = 0, O_NONBLOCK = 4, O_DIRECTORY = 0x100000, O_CLOEXEC = 0x1000000,' \
+        'AT_FDCWD = -2, AT_SYMLINK_NOFOLLOW = 32 };' >"$sdk/usr/include/fcntl.h"
+    printf '%s\n' 'typedef struct folder_stream DIR;' 'struct dirent { char before[21], d_name[1024]; };' \
+        'DIR *fdopendir(int);' 'struct dirent *readdir(DIR *);' 'int closedir(DIR *), dirfd(DIR *);' \
+        >"$sdk/usr/include/dirent.h"
     printf '%s\n' '#include <sys/types.h>' \
         'struct stat { int st_dev, st_mode; unsigned long long st_ino; off_t st_size; char more[112]; };' \
         'int stat(const char *, struct stat *), fstat(int, struct stat *);' \
-        '#define S_ISREG(m) (((m) & 0170000) == 0100000)' \
+        'int fstatat(int, const char *, struct stat *, int);' \
+        '#define S_ISREG(m) (((m) & 0170000) == 0100000)' '#define S_ISDIR(m) (((m) & 0170000) == 0040000)' \
         'enum { S_IRGRP = 040, S_IROTH = 04 };' \
         >"$sdk/usr/include/sys/stat.h"
     printf '%s\n' '#include <stddef.h>' '#include <sys/types.h>' \

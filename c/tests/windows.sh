@@ -203,6 +203,24 @@ print(hashlib.blake2b(open("binary", "rb").read(), key=open("key", "rb").read())
                 [ ! -s ../errors ] || return
         done
 }
+# Lists of folders, by paths of several forms and lengths, and what is none or a device.
+lists_of_folders() {
+    local long path paths name=$(printf 'n%.0s' {1..255}) folder=$work/lists accented=$'caf\xc3\xa9 \xf0\x9f\x98\x80'
+    "$mingw" -municode -O2 "${warnings[@]}" -D{ABSORB_TREE=absorb,PROVED_TREE=proved}.tree -DHIDE_MEMORY=hide.memory \
+        -DSHOW_PROGRESS=show.progress -I"$include" "$tests/list_folders.c" "$prefix/lib/libvulfsjor-threads.a" \
+        "$archive" -o "$work/lists.exe" || return
+    long=$(printf 'long%0100d/' 1 2 3) paths=(dir dir/ dir/. "Z:$folder/dir" "\\\\?\\Z:${folder//\//\\}\\dir\\")
+    mkdir -p "$folder"/{blank,dir/..sub,"$long/sub"} && cd "$folder" &&
+        touch file "$long/file" dir/{.x,"$name","$accented"} &&
+        {
+            for path in "${paths[@]}"; do printf '%s\n' "$path: "{f.x,"f$name","f$accented",d..sub}; done
+            printf '%s\n' "$long: "{ffile,dsub} {NUL,file}': Not a directory' \
+                {none,'n?ne',}': No such file or directory' \
+                {nul.txt,//host/share,dir/NUL}': Permission denied'
+        } | LC_ALL=C sort >../wanted &&
+        "$by_wine" "$work/lists.exe" NUL blank "${paths[@]}" "$long" file none 'n?ne' '' nul.txt //host/share dir/NUL |
+        tr -d '\r' | LC_ALL=C sort | diff ../wanted -
+}
 # Command lines and manifests next to coreutils.
 sums_next_to_coreutils() {
     python3 "$top/tests/compare_coreutils.py" --by "$by_wine" --every "$1" "$work/b2sum.exe"
@@ -282,6 +300,7 @@ test_windows() {
         check_by_wine "b2sum.exe --check" sums_are_checked
         check_by_wine "b2sum.exe over folders, devices and with a key" sums_of_others
         check_by_wine "entries of b2sum.exe that are no files of this computer" entries_are_local
+        check_by_wine "the lists of folders of b2sum.exe" lists_of_folders
         check_by_wine "b2sum.exe next to coreutils" sums_next_to_coreutils \
             "$([ -n "${VULFSJOR_TEST_HUGE-}" ] && echo 1 || echo 120)"
     fi
