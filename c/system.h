@@ -132,12 +132,18 @@ static inline bool is_plain(const struct stat *about, off_t most) {
     return S_ISREG(about->st_mode) && about->st_size >= 1 && about->st_size <= most;
 }
 
+/* What standard output is: it stays the same, so it is looked at once. */
+static struct {
+    bool is_known, is_open;
+    struct stat about;
+} output_file;
+
 /* Whether this is the file of standard output. */
 static inline bool is_output(const struct stat *about) {
-    struct stat output;
-
-    return !fstat(STDOUT_FILENO, &output) && output.st_dev == about->st_dev &&
-           output.st_ino == about->st_ino;
+    if (!output_file.is_known) output_file.is_open = !fstat(STDOUT_FILENO, &output_file.about);
+    output_file.is_known = true;
+    return output_file.is_open && output_file.about.st_dev == about->st_dev &&
+           output_file.about.st_ino == about->st_ino;
 }
 
 /* Opens a regular file with 1 to most bytes for reading, which is not standard output. It waits for

@@ -28,6 +28,9 @@ static void (*do_before)(void);
 static bool fstat_fails;
 static dev_t device_added;
 
+/* How often standard output was looked at. */
+static int looks;
+
 static int stat_or_fail(const char *path, struct stat *about) {
     errno = EINTR;
     return stat_interrupts-- > 0 ? -1 : stat(path, about);
@@ -44,6 +47,7 @@ static int fstat_or_fail(int file, struct stat *about) {
     errno = EIO;
     if (fstat_fails || fstat(file, about)) return -1;
     if (file == STDOUT_FILENO) about->st_dev += device_added;
+    if (file == STDOUT_FILENO) looks++;
     return 0;
 }
 
@@ -557,15 +561,20 @@ static void check_others(void) {
     CHECK(!error_after(NULL) && stat_interrupts < 0 && openat_interrupts < 0);
 }
 
-/* The file of standard output is not read before its turn, by whatever name. */
+/* The file of standard output is not read before its turn, by whatever name. It is looked at once. */
 static void check_output(void) {
     const int output = dup(STDOUT_FILENO), file = openat(AT_FDCWD, "output", O_RDONLY);
 
+    output_file.is_known = false;
+    looks = 0;
     CHECK(dup2(file, STDOUT_FILENO) == STDOUT_FILENO && !close(file));
     CHECK(error_ahead("output") == EAGAIN && !error_ahead("most") && error_after(make_output) == EAGAIN);
+    CHECK(looks == 1);
     device_added = 1; /* a file with that number on another device is another one */
+    output_file.is_known = false;
     CHECK(!error_ahead("output"));
     device_added = 0;
+    output_file.is_known = false;
     close(STDOUT_FILENO);
     CHECK(dup(output) == STDOUT_FILENO && !close(output) && !error_ahead("output"));
 }
