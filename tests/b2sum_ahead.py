@@ -26,6 +26,9 @@ from b2sum_support import (
     check_line, fault_variables, filled_pipe, line, longest, outcome_of_fault, run_tests, run_with_fault, shown_of)
 
 HUGE = bool(os.environ.get("VULFSJOR_TEST_HUGE"))
+# How many random runs and manifests there are, and the number of the first, if it is not 0.
+RANDOM = int(os.environ.get("VULFSJOR_TEST_RANDOM") or (2000 if HUGE else 300))
+FIRST = int(os.environ.get("VULFSJOR_TEST_FIRST") or 0)
 # The numbers of the rule by which files are read early: of the manual, and tests/page_numbers.py compares that.
 LANES, MOST_FILES, MOST_BYTES, ENOUGH_BYTES = 8, 64, 1 << 20, 2 << 20
 FIRST_ROOM, MOST_ROOM, WORTH_BYTES, MOST_PAUSE = 64 << 10, 4 << 20, 2 << 10, 1024
@@ -604,9 +607,9 @@ def test_random(runs):
     """Random names, files, sizes, orders and options."""
     os.mkdir(runs.path("folder"))
     files = {}
-    for seed in range(2000 if HUGE else 300):
+    for seed in range(FIRST, FIRST + RANDOM):
         rng = random.Random(seed)
-        if seed % 50 == 0:
+        if seed % 50 == 0 or not files:
             files = random_files(rng)
             write_all(runs, files)
         random_run(runs, rng, files)
@@ -634,7 +637,7 @@ def test_manifests(runs):
     os.mkdir(runs.path("folder"))
     runs.write("empty", b"")
     early = 0
-    for seed in range(500 if HUGE else 60):
+    for seed in range(FIRST, FIRST + RANDOM // 4):
         rng = random.Random(seed)
         data = os.fsencode("".join(random_line(rng, files) for _ in range(rng.choice((12, 40, 200)))))
         runs.write("sums", data)
