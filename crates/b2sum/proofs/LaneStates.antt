@@ -1,34 +1,38 @@
--- States that go on in lanes: further in their texts.
-use Rattle.std.proofs.Common.{◌≡◌, ℕ, ◌≤◌, List, ◌++◌, length, take, drop, sym, ap, ◌∙◌}
-use Rattle.std.proofs.Common.{arith, append_assoc}
-use Rattle.std.proofs.lemmas.List.{length-drop, length-take, take-append-drop, take-take, take_all}
-use Rattle.b2sum.specs.LaneStates.{IsAt, Takes}
+-- States that go on in lanes: further in their texts, and from one text to the next.
+use Rattle.std.proofs.Common.{◌≡◌, ◌≢◌, ◌⊎◌, ℕ, ◌+◌, ◌-◌, ◌<◌, ◌≤◌, List, [], ◌++◌, length, take, drop}
+use Rattle.std.proofs.Common.{arith, append_assoc, ap, inl, inr, slice_index_or, subst, sym, ◌∙◌}
+use Rattle.std.proofs.lemmas.Bool.{cases_lt}
+use Rattle.std.proofs.lemmas.List.{append-nil, get_or_default, length-append, length-drop, length-take}
+use Rattle.std.proofs.lemmas.List.{take-append-drop, take_all, take_at}
+use Rattle.b2sum.specs.declared.lanes.Lane.{Lane}
+use Rattle.b2sum.specs.LaneStates.{AreBegun, IsAt, IsDone, IsInText, Takes, piece_after, place_after}
 
--- A state whose text has ended is at each later place too.
-pub at_later : {S : Type 0} (IsReady : S → Type 0) (size count : S → ℕ) (limit : ℕ)
-    (future : S → List ℕ → List ℕ) (n : ℕ) (digest : List ℕ → List ℕ) (at end : ℕ)
-    (text : List ℕ) (s : S) → IsAt IsReady size count limit future n digest at text s
-    → length text ≤ at → length text ≤ end → IsAt IsReady size count limit future n digest end text s
-at_later IsReady size count limit future n digest at end text s is long far = record {
-  ready = is.ready;
-  has_size = is.has_size;
-  has_room = omega (arith, is.has_room, length-drop end text, length-drop at text, long, far);
-  absorbed = λ y. is.absorbed y
-      ∙ ap (λ (l : List ℕ). digest (l ++ y)) (take_all at text long ∙ sym (take_all end text far));
-}
+-- The first bytes of a text, and at most so many after them.
+joined : (at most : ℕ) (text : List ℕ) → at ≤ length text
+    → take at text ++ take most (drop at text) ≡ take (at + length (take most (drop at text))) text
+joined at most text le =
+    let piece : List ℕ = take most (drop at text) in
+    let rest : List ℕ = drop most (drop at text) in
+    let whole : (take at text ++ piece) ++ rest ≡ text =
+    append_assoc (take at text) piece rest
+    ∙ ap (λ (l : List ℕ). take at text ++ l) (take-append-drop most (drop at text))
+    ∙ take-append-drop at text in
+    sym (ap (take (at + length piece)) (sym whole) ∙ take_at (take at text ++ piece) rest _ (omega (
+      arith,
+      length-append (take at text) piece,
+      length-take at text,
+      le,
+    )))
 
--- A state that absorbs the bytes of its text up to a place is there.
-pub at_end : {S : Type 0} (IsReady : S → Type 0) (size count : S → ℕ) (limit : ℕ)
-    (future : S → List ℕ → List ℕ) (n : ℕ) (digest : List ℕ → List ℕ) (at end : ℕ)
-    (text : List ℕ) (old new : S) → at ≤ end
+-- The state of a lane that absorbs at most so many bytes more of its text is there.
+pub at_after : {S : Type 0} (IsReady : S → Type 0) (size count : S → ℕ) (limit : ℕ)
+    (future : S → List ℕ → List ℕ) (n : ℕ) (digest : List ℕ → List ℕ) (at most : ℕ)
+    (text : List ℕ) (old new : S) → at ≤ length text
     → IsAt IsReady size count limit future n digest at text old
-    → Takes IsReady size count future old (drop at (take end text)) new
-    → IsAt IsReady size count limit future n digest end text new
-at_end IsReady size count limit future n digest at end text old new le is takes =
-    let piece : List ℕ = drop at (take end text) in
-    let joined : take at text ++ piece ≡ take end text =
-    ap (λ (l : List ℕ). l ++ piece) (sym (take-take at end text le))
-    ∙ take-append-drop at (take end text) in
+    → Takes IsReady size count future old (take most (drop at text)) new
+    → IsAt IsReady size count limit future n digest (at + length (take most (drop at text))) text new
+at_after IsReady size count limit future n digest at most text old new le is takes =
+    let piece : List ℕ = take most (drop at text) in
     record {
       ready = takes.ready;
       has_size = takes.same_size ∙ is.has_size;
@@ -36,13 +40,62 @@ at_end IsReady size count limit future n digest at end text old new le is takes 
         arith,
         is.has_room,
         takes.counted,
-        length-drop at (take end text),
-        length-take end text,
-        length-drop end text,
+        length-drop (at + length piece) text,
         length-drop at text,
+        length-take most (drop at text),
         le,
       );
       absorbed = λ y. takes.absorbed y ∙ is.absorbed (piece ++ y)
           ∙ ap digest (sym (append_assoc (take at text) piece y)
-          ∙ ap (λ (l : List ℕ). l ++ y) joined);
+          ∙ ap (λ (l : List ℕ). l ++ y) (joined at most text le));
     }
+
+-- The digest of a state whose text has ended is that of the text.
+pub done_at_end : {S : Type 0} (IsReady : S → Type 0) (size count : S → ℕ) (limit : ℕ)
+    (future : S → List ℕ → List ℕ) (n : ℕ) (digest : List ℕ → List ℕ) (at : ℕ) (text place : List ℕ)
+    (s : S) → IsAt IsReady size count limit future n digest at text s → length text ≤ at
+    → take (size s) place ≡ future s [] → IsDone digest n text place
+done_at_end IsReady size count limit future n digest at text place s is long here =
+    ap (λ (k : ℕ). take k place) (sym is.has_size) ∙ here ∙ is.absorbed []
+    ∙ ap digest (append-nil (take at text) ∙ take_all at text long)
+
+-- ---- lanes
+
+pub same_or_other : (a b : ℕ) → (a ≡ b) ⊎ (a ≢ b)
+same_or_other a b = elim (cases_lt a b) [
+  | inl lt ↦ inr (λ e. absurd (omega (arith, lt, e)))
+  | inr le ↦ elim (cases_lt b a) [
+    | inl gt ↦ inr (λ e. absurd (omega (arith, gt, e)))
+    | inr ge ↦ inl (omega (arith, le, ge))
+  ]
+]
+
+-- If the text of a lane is done now, and no other place has changed, each text is still done or
+-- begun, even if that lane is in another text then.
+pub begun_after : (digest : List ℕ → List ℕ) (n : ℕ) (texts out new : List (List ℕ))
+    (lanes after : List Lane) (low high least most lane : ℕ) (l : Lane) → lane < length lanes
+    → AreBegun digest n texts out lanes low high most
+    → IsDone digest n (slice_index_or texts (slice_index_or lanes lane l).text [])
+    (slice_index_or new (slice_index_or lanes lane l).text [])
+    → ((t : ℕ) → t ≢ (slice_index_or lanes lane l).text
+    → slice_index_or new t [] ≡ slice_index_or out t [])
+    → ((j : ℕ) (x : Lane) → low ≤ j → j < high → j ≢ lane
+    → (least ≤ j) × ((slice_index_or after j x).text ≡ (slice_index_or lanes j x).text))
+    → AreBegun digest n texts new after least high most
+begun_after digest n texts out new lanes after low high least most lane l long before done others keeps t lt =
+    let here : ℕ = (slice_index_or lanes lane l).text in
+    let Done : ℕ → List ℕ → Type 0 = λ k p. IsDone digest n (slice_index_or texts k []) p in
+    elim (same_or_other t here) [
+      | inl same ↦ inl (subst (λ (k : ℕ). Done k (slice_index_or new k [])) (sym same) done)
+      | inr other ↦ elim (before t lt) [
+        | inl is ↦ inl (subst (Done t) (sym (others t other)) is)
+        | inr is ↦ elim (same_or_other is.0 lane) [
+          | inl same ↦ absurd (other (sym is.4
+              ∙ ap (λ (k : ℕ). (slice_index_or lanes k is.1).text) same
+              ∙ ap (λ (x : Lane). x.text) (get_or_default lanes lane is.1 l long)))
+          | inr not ↦
+              let kept = keeps is.0 is.1 is.2 is.3 not in
+              inr (is.0, is.1, kept.0, is.3, kept.1 ∙ is.4)
+        ]
+      ]
+    ]

@@ -1,5 +1,7 @@
 -- States that go on in lanes, each with a text of its own.
-use Rattle.std.specs.Prelude.{◌≡◌, ℕ, ◌+◌, ◌<◌, List, length, take, drop, ◌++◌}
+use Rattle.std.specs.Prelude.{◌≡◌, ◌⊎◌, ℕ, ◌+◌, ◌<◌, ◌≤◌, List, [], length, take, drop, ◌++◌}
+use Rattle.std.specs.Prelude.{slice_index_or}
+use Rattle.b2sum.specs.declared.lanes.Lane.{Lane}
 
 -- A state is the old one after it absorbs these bytes.
 pub record Takes {S : Type 0} (IsReady : S → Type 0) (size count : S → ℕ)
@@ -18,3 +20,36 @@ pub record IsAt {S : Type 0} (IsReady : S → Type 0) (size count : S → ℕ) (
   pub has_size : size s ≡ n
   pub has_room : count s + length (drop at text) < limit
   pub absorbed : (y : List ℕ) → future s y ≡ digest (take at text ++ y)
+
+-- A lane is somewhere in one of these texts.
+abbrev pub IsInText : List (List ℕ) → Lane → Type 0
+IsInText texts lane =
+    (lane.text < length texts) × (lane.at ≤ length (slice_index_or texts lane.text []))
+
+-- At most so many bytes of the text of a lane, from its place on.
+abbrev pub piece_after : List (List ℕ) → ℕ → Lane → List ℕ
+piece_after texts most lane = take most (drop lane.at (slice_index_or texts lane.text []))
+
+-- Where a lane is after these.
+abbrev pub place_after : List (List ℕ) → ℕ → Lane → Lane
+place_after texts most lane = record {
+  text = lane.text;
+  at = lane.at + length (piece_after texts most lane);
+}
+
+-- A state is at the place of a lane.
+abbrev pub IsIn : {S : Type 0} → (S → Type 0) → (S → ℕ) → (S → ℕ) → ℕ → (S → List ℕ → List ℕ) → ℕ
+    → (List ℕ → List ℕ) → List (List ℕ) → Lane → S → Type 0
+IsIn IsReady size count limit future n digest texts lane s =
+    IsAt IsReady size count limit future n digest lane.at (slice_index_or texts lane.text []) s
+
+-- The digest of n bytes of a text is at the front of its place.
+abbrev pub IsDone : (List ℕ → List ℕ) → ℕ → List ℕ → List ℕ → Type 0
+IsDone digest n text place = take n place ≡ digest text
+
+-- Each of the first texts, so many, is done, or one of these lanes is in it.
+abbrev pub AreBegun : (List ℕ → List ℕ) → ℕ → List (List ℕ) → List (List ℕ) → List Lane → ℕ → ℕ
+    → ℕ → Type 0
+AreBegun digest n texts out lanes low high most = (t : ℕ) → t < most
+    → IsDone digest n (slice_index_or texts t []) (slice_index_or out t [])
+    ⊎ ((j : ℕ) × (l : Lane) × (low ≤ j) × (j < high) × ((slice_index_or lanes j l).text ≡ t))

@@ -1,5 +1,7 @@
 -- Which texts have no digest.
-use Rattle.std.specs.Prelude.{◌≡◌, ◌↔◌, ◌⊎◌, ℕ, ◌+◌, ◌^◌, ◌≤◌, Bool, false, List, length, Result}
+use Rattle.std.specs.Prelude.{◌≡◌, ◌↔◌, ◌⊎◌, ℕ, ◌+◌, ◌^◌, ◌<◌, ◌≤◌, Bool, false, List, []}
+use Rattle.std.specs.Prelude.{length, Result}
+use Rattle.std.specs.List.{All}
 use Rattle.blake2_simd.specs.Family.{blake2b, blake2s}
 use Rattle.blake2_compress.specs.Hash.{parameters_of}
 use Rattle.blake2_parallel.specs.Parallel.{parallel_key_count, settings, AdmitsParallel}
@@ -9,6 +11,7 @@ use Rattle.blake2_tree.specs.TreeRoot.{tree_parameters}
 use Rattle.b2sum_lines.specs.declared.entry.Algorithm.{Algorithm}
 use Rattle.b2sum_lines.specs.declared.entry.Algorithm.TheVariants.{Blake2b, Blake2s, Blake2bp}
 use Rattle.b2sum_lines.specs.declared.entry.Algorithm.TheVariants.{Blake2sp, Tree}
+use Rattle.b2sum_commands.specs.ReadAhead.{HasLanes}
 use Rattle.b2sum_commands.specs.declared.hashes.Function.{Function}
 use Rattle.b2sum_commands.specs.declared.options.Options.{Options}
 use Rattle.std.specs.Result.{IsErrOf}
@@ -51,3 +54,11 @@ limit_of Blake2s = 2 ^ 64
 limit_of Blake2bp = 2 ^ 64
 limit_of Blake2sp = 2 ^ 64
 limit_of (Tree leaf) = 2 ^ 58
+
+-- Texts are hashed several at a time: by BLAKE2b or BLAKE2s, with no key, if the lengths of the
+-- options are accepted, and each text is shorter than the limit.
+pub record HashesSeveral (o : Options) (f : Function) (texts : List (List ℕ)) : Type 0 where
+  pub no_key : o.key.items ≡ []
+  pub has_lanes : HasLanes f.algorithm
+  pub accepted : AcceptsOptions o f
+  pub short : All (λ text. length text < limit_of f.algorithm) texts

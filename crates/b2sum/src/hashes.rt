@@ -15,7 +15,7 @@ ghost use Rattle.blake2_state.specs.ConstructorArguments.{parameters_given};
 ghost use Rattle.b2sum.specs.FileDigests.{digest_with};
 ghost use Rattle.b2sum.specs.RefusedTexts.{IsTooLong, AcceptsOptions, counted_key, limit_of};
 
-use crate::lanes::digest_eight;
+use crate::lanes::digest_several;
 use crate::states::{Absorb, HashState};
 use b2sum_commands::{Function, Hashes, OpenFile, Options};
 use b2sum_lines::Algorithm;
@@ -45,12 +45,15 @@ const START_BYTES: usize = 4096;
 
 impl Hashes for Blake2 {
     ghost use Rattle.b2sum.specs.FileDigests.{digest_with, seal_with};
+    ghost use Rattle.b2sum.specs.RefusedTexts.{HashesSeveral};
 
     ghost hashing = { record {
       digest = digest_with;
       rejects = λ _ _. true;
       seal = seal_with;
     } };
+
+    ghost hashes_several = { HashesSeveral };
 
     fn digest_source<S: OpenFile>(
         &self,
@@ -88,12 +91,12 @@ impl Hashes for Blake2 {
         }
     }
 
-    fn digest_eight(
+    fn digest_several(
         &self,
         options: &Options,
         function: Function,
-        texts: &[&[u8]; 8],
-        out: &mut [[u8; 64]; 8],
+        texts: &[&[u8]],
+        out: &mut [[u8; 64]],
     ) -> bool {
         if !options.key.is_empty() {
             return false;
@@ -102,11 +105,11 @@ impl Hashes for Blake2 {
         match function.algorithm {
             Algorithm::Blake2b => {
                 let mut states: [blake2b::State; 8] = from_fn(|_| blake2b::State::zeros());
-                digest_eight(&given, texts, &mut states[..], out)
+                digest_several(&given, texts, &mut states[..], out)
             }
             Algorithm::Blake2s => {
                 let mut states: [blake2s::State; 8] = from_fn(|_| blake2s::State::zeros());
-                digest_eight(&given, texts, &mut states[..], out)
+                digest_several(&given, texts, &mut states[..], out)
             }
             Algorithm::Blake2bp | Algorithm::Blake2sp | Algorithm::Tree(_) => false,
         }

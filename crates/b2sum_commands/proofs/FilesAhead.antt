@@ -2,14 +2,17 @@
 use Rattle.std.proofs.Common.{◌≡◌, ℕ, ◌+◌, ◌-◌, ◌≤◌, List, ◌++◌, length, take, drop, sym, ap, ◌∙◌}
 use Rattle.std.proofs.Common.{subst, arith, append_assoc, length-append, Bool, true, false, [], ◌∷◌}
 use Rattle.std.proofs.Common.{if◌then◌else◌}
-use Rattle.std.specs.List.{All}
-use Rattle.std.proofs.lemmas.List.Elements.{All-nil, All-push, All-same}
+use Rattle.std.proofs.Common.{◌<◌, slice_index_or}
+use Rattle.std.proofs.Math.Seq.{get_or-append_seam}
+use Rattle.std.specs.List.{All, Any}
+use Rattle.std.proofs.lemmas.List.{get_or_append_left, take_more}
+use Rattle.std.proofs.lemmas.List.Elements.{All-nil, All-push, All-same, All-weaker}
 use Rattle.std.proofs.lemmas.List.{length-drop, length-take-le, take-append-drop, take-take, take_at}
 use Rattle.std.proofs.lemmas.Slice.{between_is}
 use borrow.Rule.Slice.PartMut.{put_mid, post_of}
 use Rattle.b2sum_commands.specs.declared.ahead.Found.{Found}
 use Rattle.b2sum_commands.specs.declared.ahead.Part.{Part}
-use Rattle.b2sum_commands.specs.ReadAhead.{AreFound, HasText, IsDigestOf, IsTextOf}
+use Rattle.b2sum_commands.specs.ReadAhead.{AreFound, HasText, IsDigestOf, IsFor, IsTextOf}
 use Rattle.b2sum_commands.specs.ReadAhead.{part_of}
 use Rattle.b2sum_commands.specs.World.{Files, Hashing}
 use Rattle.b2sum_commands.specs.declared.hashes.Function.{Function}
@@ -80,6 +83,46 @@ pub all_pushed : {X : Type 0} (P : X → Type 0) (xs new : List X) (x : X) (b : 
     → new ≡ (if b then xs ++ x ∷ [] else xs) → All P xs → P x → All P new
 all_pushed P xs new x true is all one = All-same P new (xs ++ x ∷ []) is (All-push P xs x all one)
 all_pushed P xs new x false is all one = All-same P new xs is all
+
+-- That there was memory means that it is there.
+pub pushed : {X : Type 0} (xs new : List X) (x : X) (b : Bool)
+    → new ≡ (if b then xs ++ x ∷ [] else xs) → b ≡ true → new ≡ xs ++ x ∷ []
+pushed xs new x b is ok = is ∙ ap (λ (c : Bool). if c then xs ++ x ∷ [] else xs) ok
+
+-- What is found stays found.
+pub still_found : {X : Type 0} (P : X → Type 0) (xs : List X) (x : X) → Any P xs
+    → Any P (xs ++ x ∷ [])
+still_found P xs x any = (
+  any.0,
+  any.1,
+  omega (arith, any.2, length-append xs (x ∷ [])),
+  get_or_append_left xs (x ∷ []) any.1 any.0 any.2 ∙ any.3,
+  any.4,
+)
+
+-- What is added is found.
+found_last : {X : Type 0} (P : X → Type 0) (xs : List X) (x : X) → P x → Any P (xs ++ x ∷ [])
+found_last P xs x is = (
+  length xs,
+  x,
+  omega (arith, length-append xs (x ∷ [])),
+  get_or-append_seam xs x [] x,
+  is,
+)
+
+-- Each of the first parts has a digest, and so has one part more if that is added.
+pub one_more_found : (f : Function) (parts : List Part) (j : ℕ) (p : Part) (found : List Found)
+    (x : Found) → j < length parts → IsFor f (slice_index_or parts j p).name.items x
+    → All (λ q. Any (IsFor f q.name.items) found) (take j parts)
+    → All (λ q. Any (IsFor f q.name.items) (found ++ x ∷ [])) (take (j + 1) parts)
+one_more_found f parts j p found x lt is all =
+    let Has : List Found → Part → Type 0 = λ l q. Any (IsFor f q.name.items) l in
+    let new : List Found = found ++ x ∷ [] in
+    All-same (Has new) _ _ (take_more parts j p lt)
+    (All-push (Has new) (take j parts) (slice_index_or parts j p)
+    (All-weaker (Has found) (Has new) (λ q. still_found (IsFor f q.name.items) found x)
+    (take j parts) all)
+    (found_last (IsFor f (slice_index_or parts j p).name.items) found x is))
 
 -- The digest of a part is that of the file.
 pub found_here : (files : Files) (hashing : Hashing) (o : Options) (f : Function) (room : List ℕ)

@@ -1,7 +1,9 @@
 -- Digests of files that are read before their turn.
-use Rattle.std.specs.Prelude.{◌≡◌, ℕ, ◌-◌, ◌≤◌, List, take, drop, Option}
+use Rattle.std.specs.Prelude.{◌≡◌, ◌⊎◌, ℕ, ◌-◌, ◌≤◌, List, take, drop, Option}
 use Rattle.std.specs.List.{All}
 use Rattle.blake2_streams.specs.Streams.{GivesAll}
+use Rattle.b2sum_lines.specs.declared.entry.Algorithm.{Algorithm}
+use Rattle.b2sum_lines.specs.declared.entry.Algorithm.TheVariants.{Blake2b, Blake2s}
 use Rattle.b2sum_commands.specs.declared.ahead.Found.{Found}
 use Rattle.b2sum_commands.specs.declared.ahead.Part.{Part}
 use Rattle.b2sum_commands.specs.declared.hashes.Function.{Function}
@@ -17,6 +19,14 @@ abbrev pub IsDigestOf : Files → Hashing → Options → Function → List ℕ 
 IsDigestOf files hashing o f name digest =
     (text : List ℕ) × IsTextOf files name text
     × (take f.bytes digest ≡ hashing.digest o f text)
+
+-- This is a digest of the file of this name, by this function.
+abbrev pub IsFor : Function → List ℕ → Found → Type 0
+IsFor f name x = (x.function ≡ f) × (x.name.items ≡ name)
+
+-- Several texts are hashed at a time by this algorithm.
+abbrev pub HasLanes : Algorithm → Type 0
+HasLanes algorithm = (algorithm ≡ Blake2b) ⊎ (algorithm ≡ Blake2s)
 
 -- All these are digests of the files that they name.
 abbrev pub AreFound : Files → Hashing → Options → List Found → Type 0

@@ -1,12 +1,12 @@
 //! Files that are read before their turn, so that eight of them can be hashed at once.
 
 ghost use Rattle.std.specs.Prelude.{◌≡◌, ◌+◌, ◌-◌, ◌<◌, ◌≤◌, ℕ, List, [], length, take, drop, map};
-ghost use Rattle.std.specs.Prelude.{IfOk, IfSome, true, slice_index_or};
-ghost use Rattle.std.specs.List.{All};
+ghost use Rattle.std.specs.Prelude.{IfOk, IfSome, None, true, false, ◌≢◌, slice_index_or};
+ghost use Rattle.std.specs.List.{All, Any};
 ghost use Rattle.blake2_streams.specs.Streams.{GivesAll};
 ghost use Rattle.b2sum_commands.specs.declared.ahead.Part.{Part};
-ghost use Rattle.b2sum_commands.specs.ReadAhead.{AreFound, HasText, IsDigestOf, IsTextOf};
-ghost use Rattle.b2sum_commands.specs.ReadAhead.{part_of};
+ghost use Rattle.b2sum_commands.specs.ReadAhead.{AreFound, HasLanes, HasText, IsDigestOf, IsFor};
+ghost use Rattle.b2sum_commands.specs.ReadAhead.{IsTextOf, part_of};
 
 use crate::devices::{Disk, OpenFile};
 use crate::hashes::{Function, Hashes};
@@ -113,23 +113,38 @@ pub(crate) fn digest_ahead<H: Hashes, D: Disk>(
     function: Function,
 ) -> Option<[u8; 64]>
     requires { AreFound (D.files host.now.disk) H.hashing options.now ahead.now.found.items }
-    ensures { IfSome result
+    ensures right { IfSome result
         (IsDigestOf (D.files host.now.disk) H.hashing options.now function name.now) }
+    ensures none { result ≡ None → HasLanes function.algorithm → ahead.now.turn ≤ ahead.now.end
+        → All (λ x. ¬ IsFor function name.now x) ahead.now.found.items }
 {
     if ahead.turn > ahead.end {
         return None;
     }
     for found in ahead.found.as_slice() {
-        if are_same(found.function, function) && found.name.as_slice() == name {
+        if is_of(found, function, name) {
             return Some(found.digest);
         }
     }
     None
 }
 
+// Returns whether a digest is that of the file of this name, by this function.
+fn is_of(found: &Found, function: Function, name: &[u8]) -> bool
+    ensures right { result ≡ true → IsFor function name.now found.now }
+    ensures wrong { result ≡ false → HasLanes function.algorithm
+        → ¬ IsFor function name.now found.now }
+{
+    if !are_same(found.function, function) {
+        return false;
+    }
+    found.name.as_slice() == name
+}
+
 /// Returns whether both are the same function, by which several texts are hashed in lanes.
 pub(crate) fn are_same(a: Function, b: Function) -> bool
-    ensures { result ≡ true → a ≡ b }
+    ensures same { result ≡ true → a ≡ b }
+    ensures other { result ≡ false → HasLanes b.algorithm → a ≢ b }
 {
     a.bytes == b.bytes
         && matches!(
@@ -271,7 +286,10 @@ fn hash_files<H: Hashes, D: Disk>(
     found: &mut Vec<Found>,
 ) -> Result<Group, AllocError>
     requires { AreFound (D.files host.now.disk) H.hashing options.now found.old.items }
-    ensures { AreFound (D.files host.now.disk) H.hashing options.now found.new.items }
+    ensures found { AreFound (D.files host.now.disk) H.hashing options.now found.new.items }
+    ensures all { IfOk result (λ group. H.hashes_several options.now function
+        (map (part_of room.new) group.parts.items)
+        → All (λ p. Any (IsFor function p.name.items) found.new.items) group.parts.items) }
 {
     let mut group = read_parts(host, names, most, room)?;
     // The longest come first. The order is no part of the digests.
@@ -377,7 +395,7 @@ fn read_to_end<S: OpenFile>(source: &mut S, out: &mut [u8]) -> Option<usize>
     Some(count)
 }
 
-// Hashes parts of the memory, eight at a time, and adds their digests.
+// Hashes parts of the memory in lanes, and adds their digests.
 fn hash_parts<H: Hashes, D: Disk>(
     host: &Host<H, D>,
     options: &Options,
@@ -388,39 +406,44 @@ fn hash_parts<H: Hashes, D: Disk>(
 ) -> Result<(), AllocError>
     requires parts { All (HasText (D.files host.now.disk) room.now (length room.now)) parts.now }
     requires found { AreFound (D.files host.now.disk) H.hashing options.now found.old.items }
-    ensures { AreFound (D.files host.now.disk) H.hashing options.now found.new.items }
+    ensures found { AreFound (D.files host.now.disk) H.hashing options.now found.new.items }
+    ensures all { IfOk result (λ _. H.hashes_several options.now function
+        (map (part_of room.now) parts.now)
+        → All (λ p. Any (IsFor function p.name.items) found.new.items) parts.now) }
 {
-    let mut rest = parts;
-    'eight: while !rest.is_empty() {
-        let (eight, after) = rest.split_at(rest.len().min(LANES));
-        hash_eight(host, options, function, eight, room, found)?;
-        rest = after;
+    let alloc = host.program.alloc;
+    let texts = texts_of(alloc, parts, room)?;
+    let mut digests = vec![in alloc; [0u8; 64]; parts.len()]?;
+    let are_hashed = host.hashes.digest_several(
+        options,
+        function,
+        texts.as_slice(),
+        digests.as_mut_slice(),
+    );
+    if !are_hashed {
+        return Ok(());
     }
-    Ok(())
+    add_digests(host, options, function, parts, digests.as_slice(), found)
 }
 
-// The same of at most eight parts.
-fn hash_eight<H: Hashes, D: Disk>(
+// Adds these digests of the files of parts.
+fn add_digests<H: Hashes, D: Disk>(
     host: &Host<H, D>,
     options: &Options,
     function: Function,
     parts: &[Part],
-    room: &[u8],
+    digests: &[[u8; 64]],
     found: &mut Vec<Found>,
 ) -> Result<(), AllocError>
-    requires few { length parts.now ≤ 8 }
-    requires parts { All (HasText (D.files host.now.disk) room.now (length room.now)) parts.now }
+    requires number { length digests.now ≡ length parts.now }
+    requires digests { (j : ℕ) (p : Part) → j < length parts.now
+        → IsDigestOf (D.files host.now.disk) H.hashing options.now function
+        (slice_index_or parts.now j p).name.items (slice_index_or digests.now j []) }
     requires found { AreFound (D.files host.now.disk) H.hashing options.now found.old.items }
-    ensures { AreFound (D.files host.now.disk) H.hashing options.now found.new.items }
+    ensures found { AreFound (D.files host.now.disk) H.hashing options.now found.new.items }
+    ensures all { IfOk result (λ _. All (λ p. Any (IsFor function p.name.items) found.new.items)
+        parts.now) }
 {
-    let texts = texts_of(parts, room);
-    let mut digests = [[0u8; 64]; 8];
-    if !host
-        .hashes
-        .digest_eight(options, function, &texts, &mut digests)
-    {
-        return Ok(());
-    }
     for j in 0..parts.len() {
         let digest = Found {
             name: Vec::from_slice(host.program.alloc, parts[j].name.as_slice())?,
@@ -432,19 +455,17 @@ fn hash_eight<H: Hashes, D: Disk>(
     Ok(())
 }
 
-// Returns the bytes of at most eight parts, and no bytes in the place of others.
-fn texts_of<'a>(parts: &[Part], room: &'a [u8]) -> [&'a [u8]; 8]
-    requires few { length parts.now ≤ 8 }
-    requires inside { All (λ p. (p.start ≤ p.end) × (p.end ≤ length room.now)) parts.now }
-    ensures { (j : ℕ) (p : Part) → j < length parts.now
-        → slice_index_or (map (λ t. t.now) result) j [] ≡ part_of room.now
-        (slice_index_or parts.now j p) }
+// Returns the bytes of each part.
+fn texts_of<'a>(alloc: Global, parts: &[Part], room: &'a [u8]) -> Result<Vec<&'a [u8]>, AllocError>
+    requires { All (λ p. (p.start ≤ p.end) × (p.end ≤ length room.now)) parts.now }
+    ensures { IfOk result
+        (λ texts. map (λ t. t.now) texts.items ≡ map (part_of room.now) parts.now) }
 {
-    let mut texts: [&[u8]; 8] = [&[]; 8];
-    for j in 0..parts.len() {
-        texts[j] = text_of(&parts[j], room);
+    let mut texts = Vec::new(alloc);
+    for part in parts {
+        texts.push(text_of(part, room)).map_err(|_| AllocError)?;
     }
-    texts
+    Ok(texts)
 }
 
 // Returns the bytes of a part.

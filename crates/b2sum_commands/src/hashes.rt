@@ -21,10 +21,15 @@ pub struct Function {
 
 /// Hash functions of what sources return.
 pub trait Hashes {
+    ghost use Rattle.b2sum_commands.specs.declared.hashes.Function.{Function};
+    ghost use Rattle.b2sum_commands.specs.declared.options.Options.{Options};
     ghost use Rattle.b2sum_commands.specs.World.{Hashing};
 
     // The digests of texts.
     ghost hashing: { Hashing };
+
+    // These texts are hashed several at a time by a function, with the parameters of the options.
+    ghost hashes_several: { Options → Function → List (List ℕ) → Type 0 };
 
     /// Writes the digest of all that the source returns at the front of `out`, by this function
     /// with the key, the salt and the persona of the options. The source is read in pieces of the
@@ -51,21 +56,25 @@ pub trait Hashes {
             ≡ hashing.digest options.now function text)) }
         ensures name { S.named source.new ≡ S.named source.old };
 
-    /// Writes the digest of each of eight texts at the front of its place in `out`, by this
-    /// function with the salt and the persona of the options. Returns whether it did: not under a
-    /// key, for an algorithm that has no lanes for it, or if the algorithm refuses a length. It
-    /// takes least time if each text is at least as long as the next.
-    fn digest_eight(
+    /// Writes the digest of each of these texts at the front of its place in `out`, by this function
+    /// with the salt and the persona of the options, up to eight of them at a time. There are as
+    /// many places as texts. Returns whether it did: not under a key, for an algorithm that has no
+    /// lanes for it, or if the algorithm refuses a length. It takes least time if each text is at
+    /// least as long as the next.
+    fn digest_several(
         &self,
         options: &Options,
         function: Function,
-        texts: &[&[u8]; 8],
-        out: &mut [[u8; 64]; 8],
+        texts: &[&[u8]],
+        out: &mut [[u8; 64]],
     ) -> bool
-        ensures { result ≡ true → (j : ℕ) → j < 8
+        requires { length out.old ≡ length texts.now }
+        ensures right { result ≡ true → (j : ℕ) → j < length texts.now
             → take function.bytes (slice_index_or out.new j [])
             ≡ hashing.digest options.now function
-            (slice_index_or (map (λ t. t.now) texts.now) j []) };
+            (slice_index_or (map (λ t. t.now) texts.now) j []) }
+        ensures refused { result ≡ false
+            → ¬ hashes_several options.now function (map (λ t. t.now) texts.now) };
 
     /// Writes the MAC that seals a list, by the key and the salt of the options, and a
     /// personalization of seals. Of the key the first 64 bytes count, and of the salt the first 16.

@@ -1,7 +1,9 @@
-use Rattle.std.proofs.Common.{◌≡◌, ◌<◌, ℕ, [], length, take, drop, map, slice_index_or}
+use Rattle.std.proofs.Common.{◌≡◌, ◌<◌, ℕ, length, map, slice_index_or}
 use Rattle.blake2_state.specs.SeveralStates.{piece_at}
+use Rattle.b2sum.specs.declared.lanes.Lane.{Lane}
+use Rattle.b2sum.specs.LaneStates.{piece_after}
 use Rattle.b2sum.proofs.lanes.pieces_of.Given as goal
 
 abbrev pub invariant-loop-j : goal.invariant-loop-j
-invariant-loop-j l = (length l.pieces ≡ 8) × ((k : ℕ) → k < l.j → piece_at l.pieces k
-    ≡ drop l.at (take l.end (slice_index_or (map (λ t. t.now) l.texts) k [])))
+invariant-loop-j l = (length l.pieces ≡ 8) × ((k : ℕ) (x : Lane) → k < l.j → piece_at l.pieces k
+    ≡ piece_after (map (λ t. t.now) l.texts) l.most (slice_index_or l.lanes k x))

@@ -1,8 +1,7 @@
-use Rattle.std.proofs.Common.{◌≡◌, ◌<◌, ℕ, [], length, map, slice_index_or}
-use Rattle.b2sum_commands.specs.declared.ahead.Part.{Part}
+use Rattle.std.proofs.Common.{◌≡◌, map, take}
 use Rattle.b2sum_commands.specs.ReadAhead.{part_of}
 use Rattle.b2sum_commands.proofs.ahead.texts_of.Given as goal
 
-abbrev pub invariant-loop-j : goal.invariant-loop-j
-invariant-loop-j l = (length l.texts ≡ 8) × ((k : ℕ) (p : Part) → k < l.j
-    → slice_index_or (map (λ t. t.now) l.texts) k [] ≡ part_of l.room (slice_index_or l.parts k p))
+abbrev pub invariant-loop-part : goal.invariant-loop-part
+invariant-loop-part l =
+    map (λ t. t.now) l.texts.items ≡ map (part_of l.room) (take l.part-index l.parts)
