@@ -111,7 +111,7 @@ class Text:
         self.is_library, self.is_sums = "/vulfsjor" in name, "/b2sum" in name
         self.code, self.outside = functions_of_text(self.text.split("\n")), set(OUTSIDE.findall(self.text))
         # The functions of the library that hash for a program, or for both.
-        self.hashing = sorted(HASHING + LANES * ("/b2." not in name) + OUTPUTS * (not self.is_sums))
+        self.hashing = sorted(HASHING + LANES * ("/b2." not in name) + (OUTPUTS[:1] if self.is_sums else OUTPUTS))
         self.called_hashing = {f"{it}_{self.end.replace('a64', 'arm')}" for it in self.hashing}
 
     def after(self, macro):

@@ -1,10 +1,12 @@
 //! The files of the system, by names of any bytes.
 
-ghost use Rattle.std.specs.Prelude.{◌≡◌, ◌||◌, ◌∷◌, [], ℕ, ℤ, List, Option, None, Some};
+ghost use Rattle.std.specs.Prelude.{◌≡◌, ◌⊎◌, ◌||◌, ◌∷◌, [], ℕ, ℤ, List, Option, None, Some};
 ghost use Rattle.std.specs.Prelude.{true, false, is_some, is_err, IfErr, IfOk, IfSome, IsErr};
 ghost use Rattle.std.specs.Prelude.{encode_utf8, string_bytes};
 ghost use Rattle.std.specs.List.{flat_map};
 ghost use Rattle.std.specs.Io.{ReadsAtMost};
+ghost use Rattle.std.specs.IoError.{error_kind};
+ghost use Rattle.std.specs.declared.io.ErrorKind.TheVariants.{OutOfMemory};
 ghost use Rattle.std.specs.Io.KnownBytes.{ReadConsumes};
 ghost use Rattle.std.specs.declared.io.Error.{Error};
 ghost use Rattle.blake2_streams.specs.Devices.{Gives};
@@ -64,7 +66,10 @@ pub trait Paths {
     // The bytes of the file of a path, if that is known.
     ghost holds: { Self → List ℕ → Option (List ℕ) };
 
-    // It may be that the file of a path cannot be opened, with this error.
+    // The list of what is in the folder of a path, if that is known.
+    ghost lists: { Self → List ℕ → Option (List ℕ) };
+
+    // It may be that the file or the folder of a path cannot be opened, with this error.
     ghost refuses: { Self → List ℕ → Error → Type 0 };
 
     /// An open file.
@@ -81,11 +86,22 @@ pub trait Paths {
     fn open_path_ahead(&self, alloc: Global, path: &str) -> Option<Self::File>
         ensures { IfSome result (λ file. IfSome (holds self.now path.now)
             (λ _. Self.File.left file ≡ holds self.now path.now)) };
+
+    /// Opens the list of what is in the folder of this path, for reading. The error says why it
+    /// cannot be opened.
+    fn open_list(&self, alloc: Global, path: &str) -> io::Result<Self::File>
+        ensures refused { IfErr result (λ error. refuses self.now path.now error
+            ⊎ (error_kind error ≡ OutOfMemory)) }
+        ensures bytes { IfOk result (λ file. IfSome (lists self.now path.now)
+            (λ _. Self.File.left file ≡ lists self.now path.now)) };
 }
 
 // What a path begins with that `open` of `c/b2sum.c` opens only if the file is a small regular one.
 // No text of a name begins so, and no file is opened where there is no such `open`.
 const AHEAD: &str = "\u{10FF00}";
+
+// What a path begins with that it takes for that of a folder, whose list is read.
+const LIST: &str = "\u{10FF01}";
 
 // The files of std. Its contracts do not say what the system answers.
 impl<R: Files> Paths for R
@@ -96,6 +112,8 @@ where
 
     ghost holds = { λ _ _. None };
 
+    ghost lists = { λ _ _. None };
+
     ghost refuses = { λ _ _ _. ⊤ };
 
     type File = R::File;
@@ -105,11 +123,22 @@ where
     }
 
     fn open_path_ahead(&self, alloc: Global, path: &str) -> Option<R::File> {
-        let mut marked = String::new(alloc);
-        marked.push_str(AHEAD).ok()?;
-        marked.push_str(path).ok()?;
+        let marked = marked(alloc, AHEAD, path).ok()?;
         File::open(self, marked.as_str()).ok()
     }
+
+    fn open_list(&self, alloc: Global, path: &str) -> io::Result<R::File> {
+        let marked = marked(alloc, LIST, path)?;
+        File::open(self, marked.as_str())
+    }
+}
+
+// Returns the path after a mark.
+fn marked(alloc: Global, mark: &str, path: &str) -> Result<String, AllocError> {
+    let mut text = String::new(alloc);
+    text.push_str(mark)?;
+    text.push_str(path)?;
+    Ok(text)
 }
 
 /// The files of a runtime.
@@ -249,6 +278,7 @@ impl<R: Paths> Disk for System<R> {
     // Opening a file takes memory for its path and its name.
     ghost files = { λ s. record {
       holds = λ name. R.holds s.files (path_of name);
+      lists = λ name. R.lists s.files (path_of name);
       refuses = λ name error.
           R.refuses s.files (path_of name) error ⊎ (error_kind error ≡ OutOfMemory);
       describes = λ _ _. ⊤;
@@ -279,6 +309,13 @@ impl<R: Paths> Disk for System<R> {
         let name = Vec::from_slice(alloc, name).ok()?;
         let file = self.files.open_path_ahead(alloc, path.as_str())?;
         Some(fresh(Reader::File(file), name))
+    }
+
+    fn open_folder(&self, alloc: Global, name: &[u8]) -> io::Result<Opened<R::File, Stdin>> {
+        let path = text_of(alloc, name)?;
+        let name = Vec::from_slice(alloc, name)?;
+        let list = self.files.open_list(alloc, path.as_str())?;
+        Ok(fresh(Reader::File(list), name))
     }
 
     fn reason_of(&self, alloc: Global, error: io::Error) -> Result<String, AllocError> {

@@ -12,6 +12,7 @@ ghost use Rattle.blake2_simd.specs.Family.{blake2b};
 ghost use Rattle.blake2_compress.specs.Hash.{sequential};
 ghost use Rattle.blake2_state.specs.ConstructorArguments.{AdmitsState, digest_given};
 ghost use Rattle.blake2_state.specs.ConstructorArguments.{parameters_given};
+ghost use Rattle.blake2_xof.specs.Xof.{derived};
 ghost use Rattle.b2sum.specs.FileDigests.{digest_with};
 ghost use Rattle.b2sum.specs.RefusedTexts.{IsTooLong, AcceptsOptions, counted_key, limit_of};
 
@@ -24,6 +25,7 @@ use blake2_digest::{scrub_stack, tell_bytes};
 use blake2_parallel::{blake2bp, blake2sp};
 use blake2_state::tree::TreeState;
 use blake2_state::{StateParameters, blake2b, blake2s};
+use blake2_xof::blake2xb;
 use std::array::from_fn;
 
 /// BLAKE2b, BLAKE2s, BLAKE2bp, BLAKE2sp, and trees over BLAKE2b.
@@ -43,7 +45,12 @@ const SEAL_PERSONA: &[u8] = b"b2sum sealed";
 // that needs.
 const START_BYTES: usize = 4096;
 
+// The bytes of the stack that are overwritten after a key is derived: more than that needs.
+const DERIVED_BYTES: usize = 8192;
+
 impl Hashes for Blake2 {
+    ghost use Rattle.blake2_simd.specs.Family.{blake2b};
+    ghost use Rattle.blake2_xof.specs.Xof.{derived};
     ghost use Rattle.b2sum.specs.FileDigests.{digest_with, seal_with};
     ghost use Rattle.b2sum.specs.RefusedTexts.{HashesSeveral};
 
@@ -51,6 +58,7 @@ impl Hashes for Blake2 {
       digest = digest_with;
       rejects = λ _ _. true;
       seal = seal_with;
+      derive = derived blake2b;
     } };
 
     ghost hashes_several = { HashesSeveral };
@@ -125,12 +133,33 @@ impl Hashes for Blake2 {
         digest_list(&given, list, out);
     }
 
+    fn derive_key(&self, key: &[u8], context: &[u8], out: &mut [u8]) {
+        derive_key(key, context, out);
+        scrub_stack::<DERIVED_BYTES>();
+    }
+
     fn piece_bytes(&self, options: &Options) -> usize {
         match options.algorithm {
             Algorithm::Tree(_) => TREE_PIECE_BYTES,
             _ => PIECE_BYTES,
         }
     }
+}
+
+// Writes the key that is derived by BLAKE2Xb from a key of 1 to 64 bytes for a context, in a
+// separate frame, which the caller scrubs. `out` has 1 to 64 bytes.
+#[inline(never)]
+fn derive_key(key: &[u8], context: &[u8], out: &mut [u8])
+    requires some_key { 1 ≤ length key.now }
+    requires fits { length key.now ≤ 64 }
+    requires some { 1 ≤ length out.old }
+    requires room { length out.old ≤ 64 }
+    ensures { out.new ≡ derived blake2b key.now context.now (length out.old) }
+{
+    let mut state = blake2xb::State::init(out.len() as u64, key, b"", b"").unwrap();
+    state.update(context);
+    state.squeeze(out);
+    state.wipe();
 }
 
 // Returns the parameters of a hash by this function.

@@ -1,12 +1,19 @@
 -- The key of a key file.
 use Rattle.std.proofs.Common.{◌≡◌, ◌⊎◌, ℕ, Bool, true, false, List, Option, Some, None, Result, Ok}
 use Rattle.std.proofs.Common.{Err}
-use Rattle.std.proofs.Common.{IfOk, IfSome, if◌then◌else◌, inl, inr, sym, subst, length, ◌<◌}
+use Rattle.std.proofs.Common.{IfOk, IfSome, if◌then◌else◌, inl, inr, sym, subst, length, ◌<◌, []}
+use Rattle.std.proofs.Common.{Vec, Global, refl, ap, ◌∙◌}
 use Rattle.std.specs.Io.KnownBytes.{Consumes, IsAtEnd}
 use Rattle.std.specs.declared.io.Error.{Error}
 use Rattle.b2sum_commands.specs.KeyTexts.{key_in, key_room}
 use Rattle.b2sum_commands.specs.Messages.{Cannot, is_standard_input}
-use Rattle.b2sum_commands.specs.ProgramRuns.{LacksKey, TellsNoKey, key_reason}
+use Rattle.b2sum_lines.specs.ManifestLines.{max_bytes}
+use Rattle.std.specs.Option.{option_map}
+use Rattle.b2sum_commands.specs.CommandLine.{Choice}
+use Rattle.b2sum_commands.specs.declared.options.Options.{Options}
+use Rattle.b2sum_commands.specs.ProgramRuns.{AfterKey, HasReadKey, LacksKey, TakesKey, TellsNoKey}
+use Rattle.b2sum_commands.specs.ProgramRuns.{WarnsOfDigits, key_file_bytes, key_from, key_most}
+use Rattle.b2sum_commands.specs.ProgramRuns.{key_reason}
 use Rattle.b2sum_commands.specs.World.{IsKey, IsNoKey, Streams, Tells, World}
 use Rattle.b2sum_commands.proofs.KnownBytes.{IsKnown, no_key_known}
 
@@ -79,4 +86,41 @@ file_lacks w name hex most left old new other known told = (told.0, go told.1, t
       subst (λ (b : Bool). IsNoKey (if b then old.left else w.files.holds name) hex most) (sym other)
           (no_key_known (w.files.holds name) left hex most known none.0),
       none.1,
+    )
+
+-- What `HasKey` says of the name of a key file.
+abbrev HasKeyOf : World → Option (List ℕ) → Choice → List ℕ → Options → List ℕ → Type 0
+HasKeyOf w left c key o name =
+    IsKey (key_file_bytes w.files left name) o.key_is_hex (key_most o) key
+    × (o.key.items ≡ key_from w.hashing c.context (max_bytes o.algorithm) key)
+
+-- There is no key file.
+pub no_key_file : (w : World) (c : Choice) (o : Options) (s : Streams)
+    (file : Option (Vec ℕ Global)) → file ≡ None
+    → option_map (λ (n : Vec ℕ Global). n.items) file ≡ c.key_file → HasReadKey w c o s s
+no_key_file w c o s file none given =
+    let named : None ≡ c.key_file =
+    sym (ap (option_map (λ (n : Vec ℕ Global). n.items)) none) ∙ given in (
+      [],
+      subst (λ (f : Option (List ℕ)). IfSome f (HasKeyOf w s.left c [] o)) named tt,
+      subst (λ (f : Option (List ℕ)). TakesKey w f o.key_is_hex [] s s) named
+          (s, (s.left, refl, refl), refl),
+    )
+
+-- The key file has a key.
+pub key_of_file : (w : World) (c : Choice) (o : Options) (old read new : Streams)
+    (file : Option (Vec ℕ Global)) (name : Vec ℕ Global) (shown key : List ℕ)
+    → file ≡ Some name → option_map (λ (n : Vec ℕ Global). n.items) file ≡ c.key_file
+    → shown ≡ name.items
+    → IsKey (key_file_bytes w.files old.left shown) o.key_is_hex (key_most o) key
+    → o.key.items ≡ key_from w.hashing c.context (max_bytes o.algorithm) key
+    → AfterKey (Some shown) old read
+    → WarnsOfDigits w.program (Some shown) o.key_is_hex key read new → HasReadKey w c o old new
+key_of_file w c o old read new file name shown key some given is has from after warned =
+    let named : Some shown ≡ c.key_file =
+    ap Some is ∙ sym (ap (option_map (λ (n : Vec ℕ Global). n.items)) some) ∙ given in (
+      key,
+      subst (λ (f : Option (List ℕ)). IfSome f (HasKeyOf w old.left c key o)) named (has, from),
+      subst (λ (f : Option (List ℕ)). TakesKey w f o.key_is_hex key old new) named
+          (read, after, warned),
     )

@@ -20,3 +20,9 @@ pub mod LastTextPart
 pub mod CommandLines
 pub mod KeyFiles
 pub mod OpenedManifests
+pub mod WalkedFolders
+pub mod FolderEntries
+pub mod SortedNames
+pub mod ExpectedDigests
+pub mod LookedFor
+pub mod PrintedFolders

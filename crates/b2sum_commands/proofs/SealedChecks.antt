@@ -1,11 +1,11 @@
 -- The check of lists that are sealed.
-use Rattle.std.proofs.Common.{◌≡◌, ◌⊎◌, ℕ, ◌^◌, ◌≤◌, Bool, true, false, List, [], ◌∷◌, ◌++◌}
-use Rattle.std.proofs.Common.{Option, Some, None, Result, Ok, Err, IfOk, if◌then◌else◌, length}
+use Rattle.std.proofs.Common.{◌≡◌, ◌⊎◌, ℕ, ◌^◌, ◌≤◌, ◌&&◌, Bool, true, false, List, [], ◌∷◌, ◌++◌}
+use Rattle.std.proofs.Common.{Option, Some, None, if◌then◌else◌, length}
 use Rattle.std.proofs.Common.{inl, inr, refl, ap, ◌∙◌, sym, subst, append-nil, true≢false}
 use Rattle.std.specs.Io.KnownBytes.{Appends, Consumes, IsAtEnd}
-use Rattle.std.specs.Result.{result_ok}
 use Rattle.std.specs.declared.io.Error.{Error}
 use Rattle.text_lines.specs.Cuts.{lines_of}
+use Rattle.b2sum_lines.specs.declared.entry.Spacing.{Spacing}
 use Rattle.b2sum_commands.specs.declared.check.Counts.{Counts}
 use Rattle.b2sum_commands.specs.declared.check.Verdict.{Verdict}
 use Rattle.b2sum_commands.specs.declared.options.Options.{Options}
@@ -14,11 +14,13 @@ use Rattle.b2sum_commands.specs.Manifests.{BeginsLine, IsLine}
 use Rattle.b2sum_commands.specs.Messages.{Cannot, is_standard_input}
 use Rattle.b2sum_commands.specs.PrintedSums.{IsKept, IsSum}
 use Rattle.b2sum_commands.specs.Reports.{AreCounted, TellsEnd}
-use Rattle.b2sum_commands.specs.SealedLists.{ArePrinted, IsProven, IsSealed, IsOverlong, LacksList}
-use Rattle.b2sum_commands.specs.SealedLists.{TellsUnlisted, long_reason, seal_line, unsealed}
+use Rattle.b2sum_commands.specs.FolderChecks.{AreCompared, names_of}
+use Rattle.b2sum_commands.specs.LongLists.{IsOverlong, long_reason}
+use Rattle.b2sum_commands.specs.SealedLists.{ArePrinted, IsProven, IsSealed, LacksList}
+use Rattle.b2sum_commands.specs.SealedLists.{TellsUnlisted, seal_line, unsealed}
 use Rattle.b2sum_commands.specs.World.{AllInTurn, InTurn, IsStopped, OnlyTells, StopsIn, Streams}
 use Rattle.b2sum_commands.specs.World.{Tells, TellsText, World}
-use Rattle.b2sum_commands.proofs.DoneInTurn.{Sofar, sofar_end, sofar_step}
+use Rattle.b2sum_commands.proofs.DoneInTurn.{Sofar, items_of, sofar_end, sofar_step}
 use Rattle.b2sum_commands.proofs.KnownBytes.{IsKnown}
 use Rattle.b2sum_commands.proofs.VerdictCounts.{counted_holds}
 
@@ -74,7 +76,7 @@ lines_stop false w o names old new lines = lines
 
 -- ---- the list that is read
 
-long_known : (held left : Option (List ℕ)) (most : ℕ) → IsKnown held left → IsOverlong left most
+pub long_known : (held left : Option (List ℕ)) (most : ℕ) → IsKnown held left → IsOverlong left most
     → IsOverlong held most
 long_known None left most known long = (long.0, None, tt, long.3)
 long_known (Some bytes) left most known long =
@@ -188,17 +190,22 @@ seal_broken w o name old read new text r broken only told = inl (
   }),
 )
 
--- The seal holds, and the lines are checked. Then the last messages are told, or an error ended
--- that.
-pub seal_holds : {E : Type 0} (w : World) (o : Options) (name : List ℕ) (old read mid new : Streams)
-    (text : List ℕ) (vs : List Verdict) (counts : Counts) (r : Result Bool E)
+-- The seal holds, and the lines are checked. Then the last messages are told, and what is in folders
+-- is looked for.
+pub seal_holds : (w : World) (o : Options) (name : List ℕ) (old read mid checked new : Streams)
+    (text : List ℕ) (vs : List Verdict) (counts : Counts) (spacing : Spacing) (holds all : Bool)
     → IsRead w name old read text → IsSealed w.hashing o text
     → InTurn (IsLine w o (is_standard_input name)) (lines_of text) read mid vs → AreCounted vs counts
-    → OnlyTells mid new
-    → IfOk r (λ holds. TellsEnd w.program o name (Some counts) holds (TellsText mid new))
-    → IsProven w o name old new (result_ok r)
-seal_holds w o name old read mid new text vs counts (Ok holds) r sealed lines counted last told =
-    inr (record {
+    → OnlyTells mid checked
+    → TellsEnd w.program o name (Some counts) holds (TellsText mid checked)
+    → spacing ≡ read.place.spacing
+    → AreCompared w o (items_of o.folders.items)
+    (names_of o (is_standard_input name) spacing (lines_of text)) checked new all
+    → IsProven w o name old new (Some (holds && all))
+seal_holds w o name old read mid checked new text vs counts spacing holds all r sealed lines
+    counted last told from compared = inr (record {
+      holds = holds;
+      checked = checked;
       judged = record {
         text = text;
         left = r.left;
@@ -215,24 +222,34 @@ seal_holds w o name old read mid new text vs counts (Ok holds) r sealed lines co
       };
       sealed = sealed;
       fits = r.fits;
+      has_all = all;
+      compared = subst (λ (s : Spacing). AreCompared w o (items_of o.folders.items)
+          (names_of o (is_standard_input name) s (lines_of text)) checked new all)
+          (from ∙ ap (λ (s : Streams). s.place.spacing) r.at) compared;
+      is_result = refl;
     })
-seal_holds w o name old read mid new text vs counts (Err e) r sealed lines counted last told =
-    inr (record {
-      text = text;
-      left = r.left;
-      is_text = r.is_text;
-      sealed = sealed;
-      lines = record {
-        done = lines_of text;
-        rest = [];
-        are_all = sym (append-nil (lines_of text));
-        results = vs;
-        mid = mid;
-        are_done = subst
-            (λ (s : Streams). InTurn (IsLine w o (is_standard_input name)) (lines_of text) s mid vs) r.at lines;
-        next = ap (λ (s : Streams). s.held) last;
-      };
-    })
+
+-- The seal holds, and the lines are checked. Then an error ended the check.
+pub seal_ended : (w : World) (o : Options) (name : List ℕ) (old read mid new : Streams)
+    (text : List ℕ) (vs : List Verdict) → IsRead w name old read text → IsSealed w.hashing o text
+    → InTurn (IsLine w o (is_standard_input name)) (lines_of text) read mid vs
+    → new.held ≡ mid.held → IsProven w o name old new None
+seal_ended w o name old read mid new text vs r sealed lines held = inr (record {
+  text = text;
+  left = r.left;
+  is_text = r.is_text;
+  sealed = sealed;
+  lines = record {
+    done = lines_of text;
+    rest = [];
+    are_all = sym (append-nil (lines_of text));
+    results = vs;
+    mid = mid;
+    are_done = subst
+        (λ (s : Streams). InTurn (IsLine w o (is_standard_input name)) (lines_of text) s mid vs) r.at lines;
+    next = held;
+  };
+})
 
 -- The seal holds, and an error ended the check of a line.
 pub seal_stopped : (w : World) (o : Options) (name : List ℕ) (old read new : Streams)

@@ -98,15 +98,44 @@ goes_with_seals c =
     && (not c.ends_zero && (not (c.has_no_names || c.is_raw) && not (is_text_mode c.is_binary)))))))
     && (not c.is_sealed || (c.checks && is_some c.key_file))
 
+-- The options go with folders: their files are printed with names, or have to be in a sealed list.
+abbrev pub goes_with_folders : Choice → Bool
+goes_with_folders c = (length c.folders == 0)
+    || (is_none c.expected && (if c.checks then c.is_sealed else not c.is_raw))
+
+-- A key can be derived: there is one.
+abbrev pub goes_with_context : Choice → Bool
+goes_with_context c = is_none c.context || is_some c.key_file
+
+-- The digest has a length that a check accepts: one of the algorithm, and the length that is given,
+-- or the longest under a key.
+abbrev pub has_digest_length : Choice → List ℕ → Bool
+has_digest_length c digest =
+    nat_le (length digest) (max_bytes c.algorithm)
+    && (if c.bits == 0 then is_none c.key_file || (length digest == max_bytes c.algorithm)
+    else 8 * length digest == c.bits)
+
+-- The options go with a digest that a file is to have, if one is given.
+abbrev pub goes_with_digest : Choice → Option (List ℕ) → Bool
+goes_with_digest c None = true
+goes_with_digest c (Some digest) =
+    not c.is_sealed && (not (c.is_strict || c.ignores_missing) && has_digest_length c digest)
+
+-- The options for the form of lines, for parameters, trees, checks and sums go together.
+abbrev pub goes_with_task : Choice → Bool
+goes_with_task c =
+    not (c.is_tagged && is_text_mode c.is_binary)
+    && (not (c.is_tagged && (c.has_no_names || c.is_raw))
+    && (has_one_persona c
+    && (has_one_key c
+    && (goes_with_tree c && (if c.checks then goes_with_check c else goes_with_sums c)))))
+
 -- The options go together.
 abbrev pub goes_together : Choice → Bool
 goes_together c =
     goes_with_seals c
-    && (not (c.is_tagged && is_text_mode c.is_binary)
-    && (not (c.is_tagged && (c.has_no_names || c.is_raw))
-    && (has_one_persona c
-    && (has_one_key c
-    && (goes_with_tree c && (if c.checks then goes_with_check c else goes_with_sums c))))))
+    && (goes_with_folders c
+    && (goes_with_context c && (goes_with_digest c c.expected && goes_with_task c)))
 
 -- The file of the key, if there is one, is standard input.
 abbrev pub is_input : Option (List ℕ) → Bool
@@ -162,10 +191,13 @@ pub record AreOptions (c : Choice) (o : Options) : Type 0 where
   pub demands_algorithm : o.demands_algorithm ≡ (c.names_algorithm || is_some c.leaf)
   pub key : c.key_file ≡ None → o.key.items ≡ []
   pub key_is_hex : o.key_is_hex ≡ c.key_is_hex
+  pub context : option_map (λ text. text.items) o.context ≡ c.context
   pub input_is_key : o.input_is_key ≡ is_input c.key_file
   pub needs : o.needs ≡ chosen_needs c
   pub salt : o.salt.items ≡ c.salt
   pub persona : o.persona.items ≡ chosen_persona c
+  pub folders : map (λ name. name.items) o.folders.items ≡ c.folders
+  pub expected : option_map (λ digest. digest.bytes.items) o.expected ≡ c.expected
   pub checks : o.checks ≡ c.checks
   pub shape : o.shape ≡ chosen_shape c
   pub style : o.style ≡ chosen_style c

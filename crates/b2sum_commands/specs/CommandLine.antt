@@ -2,7 +2,7 @@
 -- values, and files.
 use Rattle.std.specs.Prelude.{ℕ, ◌+◌, ◌-◌, ◌*◌, ◌^◌, ◌%◌, ◌==◌, ◌&&◌, ◌||◌, nat_lt, nat_le}
 use Rattle.std.specs.Prelude.{nat_eq, Bool, true, false, not, if◌then◌else◌, List, [], ◌∷◌, ◌++◌}
-use Rattle.std.specs.Prelude.{drop, codes, Option, Some, None, Result, Ok, Err}
+use Rattle.std.specs.Prelude.{length, drop, codes, Option, Some, None, Result, Ok, Err}
 use Rattle.std.specs.List.{starts_with, find, count_by, list_all}
 use Rattle.std.specs.Result.{result_ok}
 use Rattle.std.specs.Str.{bytes_eq}
@@ -13,10 +13,11 @@ use Rattle.b2sum_lines.specs.declared.entry.Algorithm.TheVariants.{Blake2b, Blak
 use Rattle.b2sum_lines.specs.declared.entry.Algorithm.TheVariants.{Blake2sp}
 use Rattle.b2sum_commands.specs.declared.option_names.Flag.{Flag}
 use Rattle.b2sum_commands.specs.declared.option_names.Flag.TheVariants.{Algorithm, Length, KeyFile}
-use Rattle.b2sum_commands.specs.declared.option_names.Flag.TheVariants.{KeyHexFile}
+use Rattle.b2sum_commands.specs.declared.option_names.Flag.TheVariants.{KeyHexFile, DeriveKey}
 use Rattle.b2sum_commands.specs.declared.option_names.Flag.TheVariants.{Personal, Salt, Tree}
 use Rattle.b2sum_commands.specs.declared.option_names.Flag.TheVariants.{PersonalText, Progress}
-use Rattle.b2sum_commands.specs.declared.option_names.Flag.TheVariants.{ShowDigests}
+use Rattle.b2sum_commands.specs.declared.option_names.Flag.TheVariants.{ShowDigests, Recursive}
+use Rattle.b2sum_commands.specs.declared.option_names.Flag.TheVariants.{Expect}
 use Rattle.b2sum_commands.specs.declared.option_names.Flag.TheVariants.{Threads, NoNames, Raw}
 use Rattle.b2sum_commands.specs.declared.option_names.Flag.TheVariants.{Check, IgnoreMissing, Quiet}
 use Rattle.b2sum_commands.specs.declared.option_names.Flag.TheVariants.{Status, Warn, Strict, Tag}
@@ -39,7 +40,9 @@ pub data End : Type 0 where
 -- the algorithm's longest. `key_is_raw` and `key_is_hex` are that there is `--key-file` and
 -- `--key-hex-file`: the file is that of the last of them. A persona is given by digits or as a
 -- text; one that is not given has no bytes. `is_binary` is that of the last of `--binary`,
--- `--text`, `--tag` and `--seal`. Lines that are to be sealed have tags.
+-- `--text`, `--tag` and `--seal`. Lines that are to be sealed have tags. `context` is that of a key
+-- that is derived, `folders` are those of each `--recursive`, and `expected` is the digest of
+-- `--expect`, which is a check.
 pub record Choice : Type 0 where
   pub algorithm : entry.Algorithm
   pub names_algorithm : Bool
@@ -48,9 +51,12 @@ pub record Choice : Type 0 where
   pub key_file : Option (List ℕ)
   pub key_is_raw : Bool
   pub key_is_hex : Bool
+  pub context : Option (List ℕ)
   pub salt : List ℕ
   pub persona : List ℕ
   pub persona_text : List ℕ
+  pub folders : List (List ℕ)
+  pub expected : Option (List ℕ)
   pub checks : Bool
   pub is_binary : Option Bool
   pub is_tagged : Bool
@@ -76,9 +82,12 @@ no_choice = record {
   key_file = None;
   key_is_raw = false;
   key_is_hex = false;
+  context = None;
   salt = [];
   persona = [];
   persona_text = [];
+  folders = [];
+  expected = None;
   checks = false;
   is_binary = None;
   is_tagged = false;
@@ -167,6 +176,16 @@ abbrev pub bytes_in : List ℕ → Option (List ℕ)
 bytes_in [] = None
 bytes_in (digit ∷ digits) = not_zeros (result_ok (decode_of (digit ∷ digits)))
 
+-- The bytes, if they are at most those of the longest digest.
+abbrev pub not_too_long : Option (List ℕ) → Option (List ℕ)
+not_too_long None = None
+not_too_long (Some bytes) = if nat_le (length bytes) 64 then Some bytes else None
+
+-- The bytes of a digest, 1 to 64, which hexadecimal digits of either case write.
+abbrev pub digest_in : List ℕ → Option (List ℕ)
+digest_in [] = None
+digest_in (digit ∷ digits) = not_too_long (result_ok (decode_of (digit ∷ digits)))
+
 -- The bytes of a text: at least one.
 abbrev pub text_in : List ℕ → Option (List ℕ)
 text_in [] = None
@@ -198,6 +217,9 @@ set_flag Algorithm c = Ok c
 set_flag Length c = Ok c
 set_flag KeyFile c = Ok c
 set_flag KeyHexFile c = Ok c
+set_flag DeriveKey c = Ok c
+set_flag Recursive c = Ok c
+set_flag Expect c = Ok c
 set_flag Personal c = Ok c
 set_flag PersonalText c = Ok c
 set_flag Salt c = Ok c
@@ -216,6 +238,10 @@ set_value Algorithm v c =
 set_value Length v c = with_value (bits_in v) (λ n. record c { bits = n })
 set_value KeyFile v c = Ok (record c { key_file = Some v; key_is_raw = true })
 set_value KeyHexFile v c = Ok (record c { key_file = Some v; key_is_hex = true })
+set_value DeriveKey v c = with_value (text_in v) (λ text. record c { context = Some text })
+set_value Recursive v c = Ok (record c { folders = c.folders ++ v ∷ [] })
+set_value Expect v c =
+    with_value (digest_in v) (λ digest. record c { expected = Some digest; checks = true })
 set_value Personal v c = with_value (bytes_in v) (λ bytes. record c { persona = bytes })
 set_value PersonalText v c = with_value (text_in v) (λ bytes. record c { persona_text = bytes })
 set_value Salt v c = with_value (bytes_in v) (λ bytes. record c { salt = bytes })
@@ -244,8 +270,9 @@ set_value Version v c = Ok c
 abbrev pub all_flags : List Flag
 all_flags =
     Length ∷ Check ∷ IgnoreMissing ∷ Quiet ∷ Status ∷ Warn ∷ Strict ∷ Tag ∷ Zero ∷ Binary ∷ Text
-    ∷ Algorithm ∷ KeyFile ∷ KeyHexFile ∷ Personal ∷ PersonalText ∷ Salt ∷ Tree ∷ Threads ∷ Progress
-    ∷ NoNames ∷ Raw ∷ ShowDigests ∷ Seal ∷ Sealed ∷ Help ∷ Version ∷ []
+    ∷ Algorithm ∷ KeyFile ∷ KeyHexFile ∷ DeriveKey ∷ Personal ∷ PersonalText ∷ Salt ∷ Tree
+    ∷ Threads ∷ Progress ∷ NoNames ∷ Raw ∷ ShowDigests ∷ Recursive ∷ Expect ∷ Seal ∷ Sealed ∷ Help
+    ∷ Version ∷ []
 
 -- The first of two options that is there.
 abbrev pub or_else : Option Flag → Option Flag → Option Flag
@@ -352,16 +379,20 @@ read_words s [] = Ok s
 read_words s (word ∷ words) =
     elim (read_next s.next s word) [ Err e ↦ Err e | Ok t ↦ read_words t words ]
 
--- The files, or `-` alone if there are none.
-abbrev pub or_standard_input : List (List ℕ) → List (List ℕ)
-or_standard_input [] = codes "-" ∷ []
-or_standard_input (name ∷ names) = name ∷ names
+-- The options name files: those of folders, whose lines are printed.
+abbrev pub names_files : Choice → Bool
+names_files c = not (length c.folders == 0) && not c.checks
+
+-- The files, or `-` alone if there are none, and the options name none.
+abbrev pub or_standard_input : Bool → List (List ℕ) → List (List ℕ)
+or_standard_input named [] = if named then [] else codes "-" ∷ []
+or_standard_input named (name ∷ names) = name ∷ names
 
 -- The choice and the files at the end of the words. A value that is still to come is missing.
 abbrev pub ended : Next → ReadWords → Result (Choice × List (List ℕ)) End
-ended Anything s = Ok (s.choice, or_standard_input s.files)
+ended Anything s = Ok (s.choice, or_standard_input (names_files s.choice) s.files)
 ended (ValueOf f) s = Err Refused
-ended OnlyFile s = Ok (s.choice, or_standard_input s.files)
+ended OnlyFile s = Ok (s.choice, or_standard_input (names_files s.choice) s.files)
 
 -- What a command line means: a choice and files, or why it names no task.
 abbrev pub reading : List (List ℕ) → Result (Choice × List (List ℕ)) End

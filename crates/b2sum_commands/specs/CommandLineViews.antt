@@ -1,5 +1,5 @@
 -- What the program's values are in the terms of CommandLine.
-use Rattle.std.specs.Prelude.{◌≡◌, ⊤, ℕ, Bool, false, List, Option, None, Result, Err}
+use Rattle.std.specs.Prelude.{◌≡◌, ⊤, ℕ, Bool, false, List, map, Option, None, Result, Err}
 use Rattle.std.specs.Option.{option_map}
 use Rattle.b2sum_commands.specs.declared.options.Reader.{Reader}
 use Rattle.b2sum_commands.specs.declared.options.Stop as stop
@@ -22,9 +22,12 @@ choice_of r = record {
   key_file = option_map (λ v. v.items) r.key_file;
   key_is_raw = r.key_is_raw;
   key_is_hex = r.key_is_hex;
+  context = option_map (λ v. v.items) r.context;
   salt = r.salt.items;
   persona = r.persona.items;
   persona_text = r.persona_text.items;
+  folders = map (λ v. v.items) r.folders.items;
+  expected = option_map (λ v. v.bytes.items) r.expected;
   checks = r.checks;
   is_binary = r.is_binary;
   is_tagged = r.is_tagged;

@@ -3,10 +3,11 @@ use Rattle.std.specs.Prelude.{ℕ, ◌==◌, Bool, true, false, if◌then◌else
 use Rattle.std.specs.Prelude.{Option, Some, None}
 use Rattle.b2sum_commands.specs.declared.option_names.Flag.{Flag}
 use Rattle.b2sum_commands.specs.declared.option_names.Flag.TheVariants.{Algorithm, Length, KeyFile}
-use Rattle.b2sum_commands.specs.declared.option_names.Flag.TheVariants.{KeyHexFile}
+use Rattle.b2sum_commands.specs.declared.option_names.Flag.TheVariants.{KeyHexFile, DeriveKey}
 use Rattle.b2sum_commands.specs.declared.option_names.Flag.TheVariants.{Personal, Salt, Tree}
 use Rattle.b2sum_commands.specs.declared.option_names.Flag.TheVariants.{PersonalText, Progress}
-use Rattle.b2sum_commands.specs.declared.option_names.Flag.TheVariants.{ShowDigests}
+use Rattle.b2sum_commands.specs.declared.option_names.Flag.TheVariants.{ShowDigests, Recursive}
+use Rattle.b2sum_commands.specs.declared.option_names.Flag.TheVariants.{Expect}
 use Rattle.b2sum_commands.specs.declared.option_names.Flag.TheVariants.{Threads, NoNames, Raw}
 use Rattle.b2sum_commands.specs.declared.option_names.Flag.TheVariants.{Check, IgnoreMissing, Quiet}
 use Rattle.b2sum_commands.specs.declared.option_names.Flag.TheVariants.{Status, Warn, Strict, Tag}
@@ -19,6 +20,7 @@ long_name Algorithm = codes "algorithm"
 long_name Length = codes "length"
 long_name KeyFile = codes "key-file"
 long_name KeyHexFile = codes "key-hex-file"
+long_name DeriveKey = codes "derive-key"
 long_name Personal = codes "personal"
 long_name PersonalText = codes "personal-text"
 long_name Salt = codes "salt"
@@ -28,7 +30,9 @@ long_name Progress = codes "progress"
 long_name NoNames = codes "no-names"
 long_name Raw = codes "raw"
 long_name ShowDigests = codes "show-digests"
+long_name Recursive = codes "recursive"
 long_name Check = codes "check"
+long_name Expect = codes "expect"
 long_name IgnoreMissing = codes "ignore-missing"
 long_name Quiet = codes "quiet"
 long_name Status = codes "status"
@@ -49,6 +53,7 @@ has_value Algorithm = true
 has_value Length = true
 has_value KeyFile = true
 has_value KeyHexFile = true
+has_value DeriveKey = true
 has_value Personal = true
 has_value PersonalText = true
 has_value Salt = true
@@ -58,7 +63,9 @@ has_value Progress = false
 has_value NoNames = false
 has_value Raw = false
 has_value ShowDigests = false
+has_value Recursive = true
 has_value Check = false
+has_value Expect = true
 has_value IgnoreMissing = false
 has_value Quiet = false
 has_value Status = false

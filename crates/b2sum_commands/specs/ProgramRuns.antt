@@ -1,38 +1,79 @@
 -- What a run did for its command line.
 use Rattle.std.specs.Prelude.{◌≡◌, ◌==◌, ◌&&◌, not, ℕ, Bool, true, false, if◌then◌else◌, List}
-use Rattle.std.specs.Prelude.{◌++◌, nat_le, codes, Option, Result, Ok, Err, Some, None, IfSome, ◌⊎◌}
+use Rattle.std.specs.Prelude.{[], ◌∷◌, map, is_some, ◌++◌, nat_le, codes, Option, Result, Ok, Err}
+use Rattle.std.specs.Prelude.{Some, None, IfSome, ◌⊎◌}
 use Rattle.std.specs.Io.KnownBytes.{Appends, Consumes, IsAtEnd}
+use Rattle.std.specs.Option.{option_map}
 use Rattle.std.specs.declared.io.Error.{Error}
 use Rattle.b2sum_lines.specs.ManifestLines.{max_bytes}
 use Rattle.b2sum_commands.specs.declared.options.Options.{Options}
 use Rattle.b2sum_commands.specs.KeyTexts.{are_digits}
 use Rattle.b2sum_commands.specs.Messages.{Cannot, DigitsAsKey, ShortMacs, Usage, Value}
 use Rattle.b2sum_commands.specs.Messages.{is_standard_input, message, message_if}
-use Rattle.b2sum_commands.specs.World.{Files, World, Streams, AllInTurn, IsKey, IsNoKey, Tells}
+use Rattle.b2sum_commands.specs.Folders.{AreWalked, TellsOthers}
+use Rattle.b2sum_commands.specs.World.{Files, Hashing, World, Streams, AllInTurn, IsKey, IsNoKey}
+use Rattle.b2sum_commands.specs.World.{Tells}
 use Rattle.b2sum_commands.specs.World.{StopsIn, IsEnded, OnlyTells, TellsText}
 use Rattle.b2sum_commands.specs.PrintedSums.{CannotGet}
-use Rattle.b2sum_commands.specs.SealedLists.{ArePrinted, IsCheckedAs}
+use Rattle.b2sum_commands.specs.SealedLists.{ArePrinted, IsCheckedBy}
 use Rattle.b2sum_commands.specs.CommandLine.{Choice, End, Helped, Versioned, Refused}
 use Rattle.b2sum_commands.specs.AcceptedOptions.{AreOptions, is_input}
 
--- The files are checked as manifests, or their lines are printed, each as lists that are sealed or
--- not. The result is whether each holds, or was read. There is none if an error ended it.
+-- The lines of the files of these names are printed, and then those of all files in the folders and
+-- below. What else is there is named by messages before that. The list is sealed or not, and only
+-- if each folder has a list.
+pub record ArePrintedBelow (w : World) (o : Options) (folders names : List (List ℕ))
+    (old new : Streams) (end : Option Bool) : Type 0 where
+  pub files : List (List ℕ)
+  pub others : List (List ℕ)
+  pub are_listed : Bool
+  pub walked : Streams
+  pub are_walked : AreWalked w folders old walked files others are_listed
+  pub told : Streams
+  pub are_told : TellsOthers w others walked told
+  pub printed : Option Bool
+  pub are_printed :
+      ArePrinted (o.is_sealed && are_listed) w o (names ++ files) told new printed
+  pub is_end : end ≡ option_map (λ well. are_listed && well) printed
+
+-- The lines of the files of these names, and of those in folders, are printed. If there is no
+-- result, an error ended it.
+abbrev pub ArePrintedAll : List (List ℕ) → World → Options → List (List ℕ) → Streams → Streams
+    → Option Bool → Type 0
+ArePrintedAll [] w o names old new end = ArePrinted o.is_sealed w o names old new end
+ArePrintedAll (folder ∷ folders) w o names old new end =
+    ArePrintedBelow w o (folder ∷ folders) names old new end
+    ⊎ ((end ≡ None) × (new.held ≡ old.held))
+
+-- The files are checked, or their lines are printed. The result is whether each holds, or was read.
+-- There is none if an error ended it.
 abbrev pub AreDone : Bool → World → Options → List (List ℕ) → Streams → Streams → Option Bool
     → Type 0
-AreDone true w o names old new end =
-    AllInTurn (IsCheckedAs o.is_sealed w o) names old new end
-AreDone false w o names old new end = ArePrinted o.is_sealed w o names old new end
+AreDone true w o names old new end = AllInTurn (IsCheckedBy w o) names old new end
+AreDone false w o names old new end =
+    ArePrintedAll (map (λ folder. folder.items) o.folders.items) w o names old new end
 
 -- The bytes of the key file of this name: those that are left of standard input for `-`.
 abbrev pub key_file_bytes : Files → Option (List ℕ) → List ℕ → Option (List ℕ)
 key_file_bytes files left name = if is_standard_input name then left else files.holds name
 
--- The key of the options is that of the key file, if the choice has one: its bytes, or those that
--- its digits write.
-abbrev pub HasKey : World → Option (List ℕ) → Choice → Options → Type 0
-HasKey w left c o =
-    IfSome c.key_file (λ name.
-    IsKey (key_file_bytes w.files left name) o.key_is_hex (max_bytes o.algorithm) o.key.items)
+-- The most bytes of the key of a key file: those of the algorithm, or 64 if the key is derived from
+-- it.
+abbrev pub key_most : Options → ℕ
+key_most o = if is_some o.context then 64 else max_bytes o.algorithm
+
+-- The key of the digests, from that of a key file: the same, or the longest of the algorithm that
+-- is derived from it for the context.
+abbrev pub key_from : Hashing → Option (List ℕ) → ℕ → List ℕ → List ℕ
+key_from h None most key = key
+key_from h (Some context) most key = h.derive key context most
+
+-- The key file of the choice, if it has one, has this key: its bytes, or those that its digits
+-- write. The options have it, or that which is derived from it.
+abbrev pub HasKey : World → Option (List ℕ) → Choice → List ℕ → Options → Type 0
+HasKey w left c key o = IfSome c.key_file (λ name.
+    IsKey (key_file_bytes w.files left name) o.key_is_hex (key_most o) key
+    × (o.key.items ≡ key_from w.hashing c.context (max_bytes o.algorithm) key))
 
 -- Standard input is at its end after the key, if that is there, and else as it was.
 abbrev pub IsPastKey : Bool → Option (List ℕ) → Option (List ℕ) → Type 0
@@ -84,23 +125,26 @@ WarnsOfMacs false program old new = new ≡ old
 
 -- The program of this name warns of a key that is read from this file as it is, and is only
 -- hexadecimal digits. Otherwise it says nothing.
-abbrev pub WarnsOfDigits : List ℕ → Option (List ℕ) → Options → Streams → Streams → Type 0
-WarnsOfDigits program None o old new = new ≡ old
-WarnsOfDigits program (Some name) o old new = OnlyTells old new
-    × TellsText old new
-    (message_if (not o.key_is_hex && are_digits o.key.items) program (DigitsAsKey name))
+abbrev pub WarnsOfDigits : List ℕ → Option (List ℕ) → Bool → List ℕ → Streams → Streams → Type 0
+WarnsOfDigits program None hex key old new = new ≡ old
+WarnsOfDigits program (Some name) hex key old new = OnlyTells old new
+    × TellsText old new (message_if (not hex && are_digits key) program (DigitsAsKey name))
 
 -- The key is read, and nothing else is changed. Then a warning may say that it is only digits.
-abbrev pub TakesKey : World → Option (List ℕ) → Options → Streams → Streams → Type 0
-TakesKey w file o old new =
-    (read : Streams) × AfterKey file old read × WarnsOfDigits w.program file o read new
+abbrev pub TakesKey : World → Option (List ℕ) → Bool → List ℕ → Streams → Streams → Type 0
+TakesKey w file hex key old new =
+    (read : Streams) × AfterKey file old read × WarnsOfDigits w.program file hex key read new
+
+-- The key of the choice is read, if it has a key file, and is that of the options.
+abbrev pub HasReadKey : World → Choice → Options → Streams → Streams → Type 0
+HasReadKey w c o old new = (key : List ℕ) × HasKey w old.left c key o
+    × TakesKey w c.key_file o.key_is_hex key old new
 
 -- The task of a choice is done for the files of these names: the key is read, and then warnings say
 -- that it is only digits, and that MACs are short, before any file is read.
 abbrev pub DoesTask : World → Choice → List (List ℕ) → Streams → Streams → Option Bool → Type 0
 DoesTask w c names old new end =
-    (o : Options) × AreOptions c o × HasKey w old.left c o
-    × (keyed : Streams) × TakesKey w c.key_file o old keyed
+    (o : Options) × AreOptions c o × (keyed : Streams) × HasReadKey w c o old keyed
     × (warned : Streams) × WarnsOfMacs (are_short_macs o) w.program keyed warned
     × AreDone o.checks w o names warned new end
 
@@ -108,7 +152,7 @@ DoesTask w c names old new end =
 -- is printed.
 abbrev pub IsUnbegun : World → Choice → Streams → Streams → Option Bool → Type 0
 IsUnbegun w c old new (Some well) = (well ≡ false) × (o : Options) × AreOptions c o
-    × IsKeyless w c.key_file o.key_is_hex (max_bytes o.algorithm) old new
+    × IsKeyless w c.key_file o.key_is_hex (key_most o) old new
 IsUnbegun w c old new None = new.held ≡ old.held
 
 -- The task of a choice is done for the files of these names, or it is not begun.

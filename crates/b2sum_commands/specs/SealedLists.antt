@@ -1,11 +1,16 @@
 -- Lists that are sealed: what their last line is, what is printed, and what a check does.
-use Rattle.std.specs.Prelude.{◌≡◌, ◌⊎◌, ℕ, ◌^◌, ◌<◌, ◌≤◌, ◌==◌, Bool, true, false, List, [], ◌∷◌}
-use Rattle.std.specs.Prelude.{◌++◌, length, codes, count_by, decimal, Option, Some, None}
-use Rattle.std.specs.Io.KnownBytes.{Appends, Consumes}
+use Rattle.std.specs.Prelude.{◌≡◌, ◌⊎◌, ℕ, ◌^◌, ◌≤◌, ◌==◌, Bool, true, false, List, [], ◌∷◌}
+use Rattle.std.specs.Prelude.{◌++◌, ◌&&◌, length, map, codes, count_by, decimal, Option, Some}
+use Rattle.std.specs.Prelude.{None}
+use Rattle.std.specs.Io.KnownBytes.{Appends}
+use Rattle.std.specs.Option.{option_map}
 use Rattle.std.specs.declared.io.Error.{Error}
 use Rattle.hex.specs.Hex.{encode_lower}
 use Rattle.text_lines.specs.Cuts.{lines_of}
 use Rattle.b2sum_commands.specs.declared.options.Options.{Options}
+use Rattle.b2sum_commands.specs.Expected.{IsExpected}
+use Rattle.b2sum_commands.specs.FolderChecks.{AreCompared, names_of}
+use Rattle.b2sum_commands.specs.LongLists.{IsOverlong, long_reason}
 use Rattle.b2sum_commands.specs.Messages.{Cannot, Message, is_standard_input}
 use Rattle.b2sum_commands.specs.World.{Hashing, World, Streams, AllInTurn, IsStopped, OnlyTells}
 use Rattle.b2sum_commands.specs.World.{StopsIn, Tells}
@@ -50,15 +55,6 @@ ArePrinted false w o names old new end = AllInTurn (IsSum w o) names old new end
 
 -- ---- the check of a list
 
--- A list has more bytes than these, and is not read.
-abbrev pub IsOverlong : Option (List ℕ) → ℕ → Type 0
-IsOverlong held most = (bytes : List ℕ) × (end : Option (List ℕ)) × Consumes held end bytes
-    × (most < length bytes)
-
--- Why a list is not read.
-abbrev pub long_reason : List ℕ
-long_reason = codes "a sealed list has at most 268435456 bytes"
-
 -- The list of this name is not read, for this reason: opening it or a read of it failed, or it has
 -- more bytes than these.
 abbrev pub LacksList : World → Option (List ℕ) → List ℕ → ℕ → List ℕ → Type 0
@@ -89,15 +85,26 @@ pub record IsUnsealed (w : World) (o : Options) (name : List ℕ) (old new : Str
   pub only : OnlyTells (record old { left = left }) new
   pub told : Tells w old new (unsealed name)
 
+-- The names of the entries of a sealed list of this name, from where it begins.
+abbrev pub listed : Options → List ℕ → Streams → List ℕ → List (List ℕ)
+listed o name s text = names_of o (is_standard_input name) s.place.spacing (lines_of text)
+
 -- A list is read, and its last line seals what is above it. It is checked as a manifest of this
--- text is, with this result.
+-- text is, and what is in the folders of the options is looked for in it, with this result.
 pub record IsBelieved (w : World) (o : Options) (name : List ℕ) (old new : Streams) (result : Bool)
     : Type 0 where
-  pub judged : IsJudged w o name old new result
+  pub holds : Bool
+  pub checked : Streams
+  pub judged : IsJudged w o name old checked holds
   pub sealed : IsSealed w.hashing o judged.text
   pub fits : length judged.text ≤ 2 ^ 28
+  pub has_all : Bool
+  pub compared : AreCompared w o (map (λ folder. folder.items) o.folders.items)
+      (listed o name old judged.text) checked new has_all
+  pub is_result : result ≡ (holds && has_all)
 
--- A list is read, and its last line seals what is above it. An error ended the check of its lines.
+-- A list is read, and its last line seals what is above it. An error ended the check of its lines,
+-- or came after that.
 pub record IsLeftOff (w : World) (o : Options) (name : List ℕ) (old new : Streams) : Type 0 where
   pub text : List ℕ
   pub left : Option (List ℕ)
@@ -121,3 +128,14 @@ abbrev pub IsCheckedAs : Bool → World → Options → List ℕ → Streams →
 IsCheckedAs true w o name old new end =
     IsProven w o name (record old { place = first_place o name }) new end
 IsCheckedAs false w o name old new end = IsChecked w o name old new end
+
+-- The file of this name is compared with a digest, if one is given. Otherwise it is checked as a
+-- manifest, sealed or not.
+abbrev pub IsCheckedFor : Option (List ℕ) → World → Options → List ℕ → Streams → Streams
+    → Option Bool → Type 0
+IsCheckedFor (Some digest) w o name old new end = IsExpected w o digest name old new end
+IsCheckedFor None w o name old new end = IsCheckedAs o.is_sealed w o name old new end
+
+-- The file of this name is checked as the options say.
+abbrev pub IsCheckedBy : World → Options → List ℕ → Streams → Streams → Option Bool → Type 0
+IsCheckedBy w o = IsCheckedFor (option_map (λ digest. digest.bytes.items) o.expected) w o

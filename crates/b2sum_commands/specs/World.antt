@@ -11,19 +11,23 @@ use Rattle.b2sum_commands.specs.declared.options.Options.{Options}
 use Rattle.b2sum_commands.specs.KeyTexts.{key_in, key_room}
 use Rattle.b2sum_commands.specs.Messages.{Message, NoMemory, WriteFailed, message}
 
--- Files by their names: the bytes of a file, if that is known, whether it may be that the file
--- cannot be opened, with this error, and whether an error may have this text.
+-- Files by their names: the bytes of a file, if that is known, the list of a folder's entries, if
+-- that is known, whether it may be that the file or folder cannot be opened, with this error, and
+-- whether an error may have this text.
 pub record Files : Type 1 where
   pub holds : List ℕ → Option (List ℕ)
+  pub lists : List ℕ → Option (List ℕ)
   pub refuses : List ℕ → Error → Type 0
   pub describes : Error → List ℕ → Type 0
 
 -- Hash functions, with the parameters of options: the digest of a text, whether a digest may be
--- refused, and the MAC that seals a list.
+-- refused, the MAC that seals a list, and the key of so many bytes that is derived from a key for a
+-- context.
 pub record Hashing : Type 0 where
   pub digest : Options → Function → List ℕ → List ℕ
   pub rejects : Options → Function → Bool
   pub seal : Options → List ℕ → List ℕ
+  pub derive : List ℕ → List ℕ → ℕ → List ℕ
 
 -- The manifest that is checked, as far as it is read: its name, the spacing of its lines, how many
 -- they are, at most 2^64 - 1.

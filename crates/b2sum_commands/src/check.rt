@@ -26,7 +26,7 @@ ghost use Rattle.b2sum_commands.specs.Manifests.{improper, is_warnings};
 ghost use Rattle.b2sum_commands.specs.ManifestChecks.{item_value, IfListed, IsChecked, GoesOn};
 ghost use Rattle.b2sum_commands.specs.ManifestChecks.{AreRead, EndsAt, AreStopped, TellsUnopened};
 ghost use Rattle.b2sum_commands.specs.ReadAhead.{AreFound};
-ghost use Rattle.b2sum_commands.specs.SealedLists.{IsCheckedAs};
+ghost use Rattle.b2sum_commands.specs.SealedLists.{IsCheckedBy};
 ghost use Rattle.b2sum_commands.specs.declared.line_reader.LineEnd.TheVariants.{Failure};
 ghost use Rattle.b2sum_commands.specs.declared.check.Verdict.TheVariants.{Equal, Different};
 ghost use Rattle.b2sum_commands.specs.declared.check.Verdict.TheVariants.{Skipped, Malformed};
@@ -36,6 +36,7 @@ ghost use Rattle.b2sum_commands.specs.declared.sums.Read.TheVariants.{Whole, Mis
 
 use crate::ahead::Ahead;
 use crate::devices::{Disk, Fault, OpenFile, Output, put};
+use crate::expected::check_expected;
 use crate::hashes::{Function, Hashes};
 use crate::line_needs::{Lacks, meets};
 use crate::line_reader::{LineEnd, LineReader};
@@ -148,15 +149,16 @@ impl Counts {
     }
 }
 
-/// Checks each manifest, from the first to the last, as a sealed list if the options say so.
-/// Returns whether all hold.
+/// Checks each file, from the first to the last: compares it with a digest, if the options have
+/// one, or checks it as a manifest, or as a sealed list. Returns whether all have the digest, or
+/// hold.
 pub fn check_manifests<H: Hashes, D: Disk, K: Output, E: Sink>(
     host: &Host<H, D>,
     options: &Options,
     session: &mut Session<D::File, K, E>,
     names: &[Vec<u8>],
 ) -> Result<bool, Fault>
-    ensures checked { AllInTurn (IsCheckedAs options.now.is_sealed
+    ensures checked { AllInTurn (IsCheckedBy
         (world_of host.now.program.name.items D.File.named D.File.failed D.File.failure
         (D.files host.now.disk) H.hashing) options.now)
         (map (λ name. name.items) names.now) session.old session.new (result_ok result) }
@@ -170,20 +172,22 @@ pub fn check_manifests<H: Hashes, D: Disk, K: Output, E: Sink>(
     Ok(all_hold)
 }
 
-// Checks the manifest of this name, as a sealed list if the options say so. Returns whether it
-// holds.
+// Checks the file of this name as the options say. Returns whether it has the digest, or holds.
 fn check_list<H: Hashes, D: Disk, K: Output, E: Sink>(
     host: &Host<H, D>,
     options: &Options,
     session: &mut Session<D::File, K, E>,
     name: &[u8],
 ) -> Result<bool, Fault>
-    ensures checked { IsCheckedAs options.now.is_sealed
+    ensures checked { IsCheckedBy
         (world_of host.now.program.name.items D.File.named D.File.failed D.File.failure
         (D.files host.now.disk) H.hashing)
         options.now name.now session.old session.new (result_ok result) }
     ensures write { IsErrOf result Fault.WriteFailed → session.new.output_failed ≡ true }
 {
+    if let Some(digest) = &options.expected {
+        return check_expected(host, options, session, digest, name);
+    }
     if options.is_sealed {
         check_sealed(host, options, session, name)
     } else {
@@ -538,9 +542,9 @@ pub(crate) fn read_item(
     }
 }
 
-// Returns the line without a carriage return at its end, or `None` for a comment and for an empty
-// line.
-fn trimmed(line: &[u8]) -> Option<&[u8]>
+/// Returns the line without a carriage return at its end, or `None` for a comment and for an empty
+/// line.
+pub(crate) fn trimmed(line: &[u8]) -> Option<&[u8]>
     ensures { option_map (λ l. l.now) result ≡ trimmed line.now }
 {
     if line.is_empty() || line[0] == b'#' {
@@ -566,8 +570,8 @@ pub(crate) fn spacing_after(spacing: Spacing, style: Style) -> Spacing
     }
 }
 
-// Compares the file of an entry, and prints its lines.
-fn check_entry<H: Hashes, D: Disk, K: Output, E: Sink>(
+/// Compares the file of an entry, and prints its lines.
+pub(crate) fn check_entry<H: Hashes, D: Disk, K: Output, E: Sink>(
     host: &Host<H, D>,
     options: &Options,
     session: &mut Session<D::File, K, E>,
@@ -832,8 +836,8 @@ fn warn_if_none<E: Sink>(
     Ok(())
 }
 
-// Returns whether messages are not wanted.
-fn prints_nothing(report: Report) -> bool
+/// Returns whether messages are not wanted.
+pub(crate) fn prints_nothing(report: Report) -> bool
     ensures { result ≡ prints_nothing report }
 {
     matches!(report, Report::Nothing)

@@ -1,6 +1,7 @@
 //! Which options go together, and what they choose.
 
-ghost use Rattle.std.specs.Prelude.{◌≡◌, ◌≢◌, ◌*◌, ◌≤◌, ◌/◌, length, map, true, false, not, []};
+ghost use Rattle.std.specs.Prelude.{◌≡◌, ◌≢◌, ℕ, ◌*◌, ◌≤◌, ◌/◌, List, length, map, true, false};
+ghost use Rattle.std.specs.Prelude.{not, []};
 ghost use Rattle.std.specs.Prelude.{None, Some, IfSome, IfOk, IfErr, OnOk, is_none};
 ghost use Rattle.std.specs.Prelude.{if◌then◌else◌};
 ghost use Rattle.std.specs.List.{list_any};
@@ -10,6 +11,8 @@ ghost use Rattle.b2sum_lines.specs.declared.entry.Style.TheVariants.{Tagged, Tex
 ghost use Rattle.b2sum_commands.specs.declared.options.Report.TheVariants.{Each};
 ghost use Rattle.b2sum_commands.specs.AcceptedOptions.{accepted, has_length, has_labels};
 ghost use Rattle.b2sum_commands.specs.AcceptedOptions.{goes_together, goes_with_seals};
+ghost use Rattle.b2sum_commands.specs.AcceptedOptions.{goes_with_folders, goes_with_digest};
+ghost use Rattle.b2sum_commands.specs.AcceptedOptions.{goes_with_task, has_digest_length};
 ghost use Rattle.b2sum_commands.specs.AcceptedOptions.{goes_with_check, goes_with_sums};
 ghost use Rattle.b2sum_commands.specs.AcceptedOptions.{goes_with_files};
 ghost use Rattle.b2sum_commands.specs.AcceptedOptions.{chosen_needs, chosen_style, chosen_shape};
@@ -56,6 +59,9 @@ pub(crate) fn finish(alloc: Global, reader: Reader, files: Vec<Vec<u8>>) -> Resu
         is_sealed: reader.seals || reader.is_sealed,
         threads: reader.threads.unwrap_or(0),
         shows_progress: reader.shows_progress,
+        context: reader.context,
+        folders: reader.folders,
+        expected: reader.expected,
         salt: reader.salt,
         persona: chosen_persona(reader.persona, reader.persona_text),
     };
@@ -248,6 +254,30 @@ fn conflict(reader: &Reader) -> Option<&'static [u8]>
     if let Some(text) = conflict_of_seals(reader) {
         return Some(text);
     }
+    if let Some(text) = conflict_of_folders(reader) {
+        return Some(text);
+    }
+    if reader.context.is_some() && reader.key_file.is_none() {
+        return Some(b"the --derive-key option needs --key-file");
+    }
+    if let Some(text) = conflict_of_digest(reader) {
+        return Some(text);
+    }
+    conflict_of_task(reader)
+}
+
+// Returns the message of options for the form of lines, for parameters, trees, checks and sums that
+// do not go together.
+fn conflict_of_task(reader: &Reader) -> Option<&'static [u8]>
+    ensures is { is_none result ≡ goes_with_task (choice_of reader.now) }
+    ensures tree { result ≡ None → reader.now.leaf ≢ None
+        → has_trees reader.now.algorithm ≡ true }
+    ensures check { result ≡ None → reader.now.checks ≡ true → (reader.now.ends_zero ≡ false)
+        × (reader.now.is_tagged ≡ false) × (reader.now.is_binary ≡ None) }
+    ensures sums { result ≡ None → reader.now.checks ≡ false
+        → (reader.now.ignores_missing ≡ false) × (reader.now.is_strict ≡ false)
+        × (reader.now.report ≡ Each) }
+{
     if reader.is_tagged && reader.is_binary == Some(false) {
         return Some(b"--tag does not support --text mode");
     }
@@ -311,6 +341,61 @@ fn conflict_of_seals(reader: &Reader) -> Option<&'static [u8]>
         return Some(b"the --sealed option needs --key-file");
     }
     None
+}
+
+// Returns the message of options that do not go with folders.
+fn conflict_of_folders(reader: &Reader) -> Option<&'static [u8]>
+    ensures { is_none result ≡ goes_with_folders (choice_of reader.now) }
+{
+    if reader.folders.is_empty() {
+        return None;
+    }
+    if reader.expected.is_some() {
+        return Some(b"the --recursive option does not support --expect");
+    }
+    if !reader.checks && reader.is_raw {
+        return Some(b"the --recursive option does not support --raw");
+    }
+    if reader.checks && !reader.is_sealed {
+        return Some(b"the --recursive option needs --sealed when verifying checksums");
+    }
+    None
+}
+
+// Returns the message of options that do not go with an expected digest.
+fn conflict_of_digest(reader: &Reader) -> Option<&'static [u8]>
+    ensures { is_none result
+        ≡ goes_with_digest (choice_of reader.now) (choice_of reader.now).expected }
+{
+    let Some(digest) = &reader.expected else {
+        return None;
+    };
+    if reader.is_sealed {
+        return Some(b"the --expect option does not support --sealed");
+    }
+    if reader.is_strict || reader.ignores_missing {
+        return Some(b"the --expect option does not support --strict and --ignore-missing");
+    }
+    if !has_digest_length(reader, digest.bytes.len()) {
+        return Some(b"the expected digest does not have the length of the digests");
+    }
+    None
+}
+
+// Returns whether an expected digest of so many bytes has a length that a check accepts.
+fn has_digest_length(reader: &Reader, bytes: usize) -> bool
+    ensures { (digest : List ℕ) → length digest ≡ bytes
+        → result ≡ has_digest_length (choice_of reader.now) digest }
+{
+    let most = reader.algorithm.max_bytes();
+    if bytes > most {
+        return false;
+    }
+    if reader.bits == 0 {
+        reader.key_file.is_none() || bytes == most
+    } else {
+        8 * bytes as u64 == reader.bits
+    }
 }
 
 // Returns whether there is a persona of digits and one of a text.

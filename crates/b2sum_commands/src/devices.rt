@@ -98,6 +98,16 @@ pub trait Disk {
         ensures { IfSome result (λ file. IfSome ((files self.now).holds name.now)
             (λ _. Self.File.left file ≡ (files self.now).holds name.now)) };
 
+    /// Opens the list of what is in the folder of this name, for reading: for each entry a letter,
+    /// `d` for a folder, `f` for a file, and another for anything else, its name in the folder, and
+    /// a zero byte. The error says why it cannot be opened.
+    fn open_folder(&self, alloc: Global, name: &[u8]) -> io::Result<Self::File>
+        ensures refused { IfErr result ((files self.now).refuses name.now) }
+        ensures bytes { IfOk result (λ file. IfSome ((files self.now).lists name.now)
+            (λ _. Self.File.left file ≡ (files self.now).lists name.now)) }
+        ensures unfailed { IfOk result (λ file. Self.File.failed file ≡ false) }
+        ensures named { IfOk result (λ file. Self.File.named file ≡ name.now) };
+
     /// Returns the text of an error.
     fn reason_of(&self, alloc: Global, error: io::Error) -> Result<String, AllocError>
         ensures { IfOk result

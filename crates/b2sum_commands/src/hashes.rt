@@ -56,11 +56,11 @@ pub trait Hashes {
             ≡ hashing.digest options.now function text)) }
         ensures name { S.named source.new ≡ S.named source.old };
 
-    /// Writes the digest of each of these texts at the front of its place in `out`, by this function
-    /// with the salt and the persona of the options, up to eight of them at a time. There are as
-    /// many places as texts. Returns whether it did: not under a key, for an algorithm that has no
-    /// lanes for it, or if the algorithm refuses a length. It takes least time if each text is at
-    /// least as long as the next.
+    /// Writes the digest of each of these texts at the front of its place in `out`, by this
+    /// function with the salt and the persona of the options, up to eight of them at a time. There
+    /// are as many places as texts. Returns whether it did: not under a key, for an algorithm that
+    /// has no lanes for it, or if the algorithm refuses a length. It takes least time if each text
+    /// is at least as long as the next.
     fn digest_several(
         &self,
         options: &Options,
@@ -80,6 +80,15 @@ pub trait Hashes {
     /// personalization of seals. Of the key the first 64 bytes count, and of the salt the first 16.
     fn seal(&self, options: &Options, list: &[u8], out: &mut [u8; 64])
         ensures { out.new ≡ hashing.seal options.now list.now };
+
+    /// Writes the key that is derived from a key of 1 to 64 bytes for a context. `out` has 1 to 64
+    /// bytes.
+    fn derive_key(&self, key: &[u8], context: &[u8], out: &mut [u8])
+        requires some_key { 1 ≤ length key.now }
+        requires fits { length key.now ≤ 64 }
+        requires some { 1 ≤ length out.old }
+        requires room { length out.old ≤ 64 }
+        ensures { out.new ≡ hashing.derive key.now context.now (length out.old) };
 
     /// Returns the best length of a buffer, in bytes.
     fn piece_bytes(&self, options: &Options) -> usize

@@ -38,6 +38,8 @@ pub(crate) fn read_key<H: Hashes, D: Disk, K: Output, E: Sink>(
     ensures key { IfOk result (λ found. IfSome found (λ key. IsKey
         (key_file_bytes (D.files host.now.disk) session.old.left name.now) form.is_hex form.most
         key.items)) }
+    ensures some { IfOk result (λ found. IfSome found (λ key. 1 ≤ length key.items)) }
+    ensures fits { IfOk result (λ found. IfSome found (λ key. length key.items ≤ form.most)) }
     ensures kept { IfOk result (λ found. IfSome found (λ _. (left : Option (List ℕ))
         × (session.new ≡ record session.old { left = left })
         × IsPastKey (is_standard_input name.now) session.old.left left)) }
@@ -82,6 +84,8 @@ fn read_key_from<H, D: Disk, E: Sink>(
     requires most { form.most ≤ 64 }
     ensures key { IfOk result (λ key. IfSome key
         (λ bytes. IsKey (D.File.left file.old) form.is_hex form.most bytes.items)) }
+    ensures some { IfOk result (λ key. IfSome key (λ bytes. 1 ≤ length bytes.items)) }
+    ensures fits { IfOk result (λ key. IfSome key (λ bytes. length bytes.items ≤ form.most)) }
     ensures end { IfOk result (λ key. IfSome key
         (λ _. IsPastKey true (D.File.left file.old) (D.File.left file.new))) }
     ensures name { D.File.named file.new ≡ name.now }
@@ -129,6 +133,8 @@ fn key_room(form: Form) -> usize
 fn key_in(alloc: Global, form: Form, bytes: Vec<u8>) -> Result<Option<Vec<u8>>, Fault>
     ensures key { IfOk result (λ found. option_map (λ key. key.items) found
         ≡ key_in form.is_hex form.most bytes.items) }
+    ensures some { IfOk result (λ found. IfSome found (λ key. 1 ≤ length key.items)) }
+    ensures fits { IfOk result (λ found. IfSome found (λ key. length key.items ≤ form.most)) }
     ensures memory { IsOkUnless result Fault.NoMemory }
 {
     if !form.is_hex {
@@ -143,7 +149,9 @@ fn key_in(alloc: Global, form: Form, bytes: Vec<u8>) -> Result<Option<Vec<u8>>, 
 
 // Returns the key, if it has at least one byte and at most so many.
 fn fitting(most: usize, key: Vec<u8>) -> Option<Vec<u8>>
-    ensures { option_map (λ k. k.items) result ≡ fitting most key.items }
+    ensures key { option_map (λ k. k.items) result ≡ fitting most key.items }
+    ensures some { IfSome result (λ k. 1 ≤ length k.items) }
+    ensures fits { IfSome result (λ k. length k.items ≤ most) }
 {
     if !key.is_empty() && key.len() <= most {
         Some(key)

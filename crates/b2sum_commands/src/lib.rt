@@ -7,6 +7,10 @@ mod ahead;
 mod check;
 mod choices;
 mod devices;
+mod digest;
+mod expected;
+mod folder_checks;
+mod folders;
 mod hashes;
 mod key;
 pub mod laws;
@@ -27,6 +31,7 @@ mod values;
 
 pub use check::{Counts, Verdict, check_manifest, check_manifests};
 pub use devices::{Disk, Fault, OpenFile, Output};
+pub use digest::ExpectedDigest;
 pub use hashes::{Function, Hashes};
 pub use line_needs::Lacks;
 pub use options::{Options, Report, Shape};

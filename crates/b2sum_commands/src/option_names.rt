@@ -13,6 +13,7 @@ pub(crate) enum Flag {
     Length,
     KeyFile,
     KeyHexFile,
+    DeriveKey,
     Personal,
     PersonalText,
     Salt,
@@ -22,7 +23,9 @@ pub(crate) enum Flag {
     NoNames,
     Raw,
     ShowDigests,
+    Recursive,
     Check,
+    Expect,
     IgnoreMissing,
     Quiet,
     Status,
@@ -48,6 +51,7 @@ impl Flag {
             Flag::Length => b"length",
             Flag::KeyFile => b"key-file",
             Flag::KeyHexFile => b"key-hex-file",
+            Flag::DeriveKey => b"derive-key",
             Flag::Personal => b"personal",
             Flag::PersonalText => b"personal-text",
             Flag::Salt => b"salt",
@@ -57,7 +61,9 @@ impl Flag {
             Flag::NoNames => b"no-names",
             Flag::Raw => b"raw",
             Flag::ShowDigests => b"show-digests",
+            Flag::Recursive => b"recursive",
             Flag::Check => b"check",
+            Flag::Expect => b"expect",
             Flag::IgnoreMissing => b"ignore-missing",
             Flag::Quiet => b"quiet",
             Flag::Status => b"status",
@@ -84,11 +90,14 @@ impl Flag {
                 | Flag::Length
                 | Flag::KeyFile
                 | Flag::KeyHexFile
+                | Flag::DeriveKey
                 | Flag::Personal
                 | Flag::PersonalText
                 | Flag::Salt
                 | Flag::Tree
                 | Flag::Threads
+                | Flag::Recursive
+                | Flag::Expect
         )
     }
 
@@ -110,7 +119,7 @@ impl Flag {
 }
 
 /// The long options, in the order in which messages list them.
-pub(crate) static FLAGS: [Flag; 27] = [
+pub(crate) static FLAGS: [Flag; 30] = [
     Flag::Length,
     Flag::Check,
     Flag::IgnoreMissing,
@@ -125,6 +134,7 @@ pub(crate) static FLAGS: [Flag; 27] = [
     Flag::Algorithm,
     Flag::KeyFile,
     Flag::KeyHexFile,
+    Flag::DeriveKey,
     Flag::Personal,
     Flag::PersonalText,
     Flag::Salt,
@@ -134,11 +144,14 @@ pub(crate) static FLAGS: [Flag; 27] = [
     Flag::NoNames,
     Flag::Raw,
     Flag::ShowDigests,
+    Flag::Recursive,
+    Flag::Expect,
     Flag::Seal,
     Flag::Sealed,
     Flag::Help,
     Flag::Version,
 ];
+
 /// Returns the option of this long name.
 pub(crate) fn exact_flag(name: &[u8]) -> Option<Flag>
     ensures { result ≡ find (λ f. bytes_eq (long_name f) name.now) all_flags }

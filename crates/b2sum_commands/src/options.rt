@@ -5,7 +5,7 @@ ghost use Rattle.b2sum_commands.specs.CommandLine.{set_flag, set_value, no_choic
 ghost use Rattle.b2sum_commands.specs.CommandLine.{flag_named, value_or_next, read_letters};
 ghost use Rattle.b2sum_commands.specs.CommandLine.{read_switch, read_option_with_value, read_long};
 ghost use Rattle.b2sum_commands.specs.CommandLine.{read_option_or_file};
-ghost use Rattle.b2sum_commands.specs.CommandLine.{read_next, reading};
+ghost use Rattle.b2sum_commands.specs.CommandLine.{names_files, read_next, reading};
 ghost use Rattle.b2sum_commands.specs.AcceptedOptions.{AreArguments, command_line};
 ghost use Rattle.b2sum_commands.specs.CommandLineViews.{choice_of, next_of, read_words_of, StopsBy};
 ghost use Rattle.b2sum_commands.specs.CommandLineViews.{IsWrong};
@@ -13,9 +13,10 @@ ghost use Rattle.b2sum_commands.specs.declared.options.Stop.TheVariants.{NoMemor
 ghost use Rattle.b2sum_commands.specs.declared.options.Next.TheVariants.{Any};
 
 use crate::choices::finish;
+use crate::digest::ExpectedDigest;
 use crate::option_names::{FLAGS, Flag, beginning_flags, exact_flag, first_beginning};
 use crate::quoting::quoted_value;
-use crate::values::{algorithm_of, bits_of, bytes_of, leaf_of, text_of, threads_of};
+use crate::values::{algorithm_of, bits_of, bytes_of, digest_of, leaf_of, text_of, threads_of};
 use b2sum_lines::{Algorithm, Needs, Style};
 use std::alloc::{AllocError, Global};
 use text_lines::split_once;
@@ -59,6 +60,8 @@ pub struct Options {
     pub key: Vec<u8>,
     /// The key's file has hexadecimal digits, which write the key.
     pub key_is_hex: bool,
+    /// The context for which the key is derived from that of its file, if it is.
+    pub context: Option<Vec<u8>>,
     /// Standard input is the key, and so is no file.
     pub input_is_key: bool,
     /// What the digests need besides a file: whether there is a key, a salt and a persona.
@@ -67,7 +70,11 @@ pub struct Options {
     pub salt: Vec<u8>,
     /// The persona: at most 16 bytes, or 8 for BLAKE2s and BLAKE2sp.
     pub persona: Vec<u8>,
-    /// The files are manifests, which are checked.
+    /// The folders whose files are printed, or have to be in a sealed list.
+    pub folders: Vec<Vec<u8>>,
+    /// The digest that the file is to have, if one is given.
+    pub expected: Option<ExpectedDigest>,
+    /// The files are manifests, which are checked, unless there is an expected digest.
     pub checks: bool,
     /// What is printed of a digest.
     pub shape: Shape,
@@ -146,9 +153,12 @@ pub(crate) struct Reader {
     pub(crate) key_file: Option<Vec<u8>>,
     pub(crate) key_is_raw: bool,
     pub(crate) key_is_hex: bool,
+    pub(crate) context: Option<Vec<u8>>,
     pub(crate) salt: Vec<u8>,
     pub(crate) persona: Vec<u8>,
     pub(crate) persona_text: Vec<u8>,
+    pub(crate) folders: Vec<Vec<u8>>,
+    pub(crate) expected: Option<ExpectedDigest>,
     pub(crate) checks: bool,
     pub(crate) is_binary: Option<bool>,
     pub(crate) is_tagged: bool,
@@ -178,9 +188,12 @@ impl Reader {
             key_file: None,
             key_is_raw: false,
             key_is_hex: false,
+            context: None,
             salt: Vec::new(alloc),
             persona: Vec::new(alloc),
             persona_text: Vec::new(alloc),
+            folders: Vec::new(alloc),
+            expected: None,
             checks: false,
             is_binary: None,
             is_tagged: false,
@@ -237,10 +250,17 @@ fn read_words(alloc: Global, words: &[Vec<u8>]) -> Result<(Reader, Vec<Vec<u8>>)
     if let Next::Awaited(flag, letter) = next {
         return Err(Stop::Usage(missing_value(alloc, flag, letter)?));
     }
-    if files.is_empty() {
+    if files.is_empty() && !names_files(&reader) {
         push_copy(alloc, &mut files, b"-")?;
     }
     Ok((reader, files))
+}
+
+// Returns whether the options name files: those of folders, whose lines are printed.
+fn names_files(reader: &Reader) -> bool
+    ensures { result ≡ names_files (choice_of reader.now) }
+{
+    !reader.folders.is_empty() && !reader.checks
 }
 
 // Returns the message of an option without its value.
@@ -492,6 +512,14 @@ fn take_value(alloc: Global, reader: &mut Reader, flag: Flag, value: &[u8]) -> R
         Flag::KeyHexFile => {
             reader.key_file = Some(copied(alloc, value)?);
             reader.key_is_hex = true;
+        }
+        Flag::DeriveKey => {
+            reader.context = Some(text_of(alloc, b"invalid context: ", value)?);
+        }
+        Flag::Recursive => push_copy(alloc, &mut reader.folders, value)?,
+        Flag::Expect => {
+            reader.expected = Some(digest_of(alloc, value)?);
+            reader.checks = true;
         }
         Flag::Personal => reader.persona = bytes_of(alloc, PERSONAL, value)?,
         Flag::PersonalText => reader.persona_text = text_of(alloc, PERSONAL, value)?,

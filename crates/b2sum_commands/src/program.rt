@@ -1,13 +1,14 @@
 //! The run of the program.
 
-ghost use Rattle.std.specs.Prelude.{◌≡◌, ◌⊎◌, ◌≤◌, map, None, Some, Err, IfOk, IfSome};
+ghost use Rattle.std.specs.Prelude.{◌≡◌, ◌⊎◌, ◌≤◌, length, map, None, Some, Err, IfOk, IfSome};
 ghost use Rattle.std.specs.Prelude.{IsErrOf, IsOkUnless, OnOk, Bool, Option, true};
 ghost use Rattle.std.specs.Option.{option_map};
 ghost use Rattle.std.specs.Result.{result_ok};
 ghost use Rattle.b2sum_commands.specs.CommandLine.{Choice, Refused};
 ghost use Rattle.b2sum_commands.specs.AcceptedOptions.{AreOptions, command_line};
 ghost use Rattle.b2sum_commands.specs.World.{world_of, IsEnded, OnlyTells};
-ghost use Rattle.b2sum_commands.specs.ProgramRuns.{DoesChoice, DoesLine, HasKey, TakesKey};
+ghost use Rattle.b2sum_commands.specs.ProgramRuns.{AreDone, ArePrintedBelow, DoesChoice, DoesLine};
+ghost use Rattle.b2sum_commands.specs.ProgramRuns.{HasReadKey, key_from, key_most};
 ghost use Rattle.b2sum_commands.specs.ProgramRuns.{WarnsOfDigits};
 ghost use Rattle.b2sum_commands.specs.ProgramRuns.{IsKeyless, TellsRefusal};
 ghost use Rattle.b2sum_commands.specs.ProgramRuns.{RunsLine, help_of, status_of};
@@ -17,6 +18,7 @@ ghost use Rattle.b2sum_commands.specs.CommandLineViews.{IsPrinted};
 
 use crate::check::check_manifests;
 use crate::devices::{Disk, Fault, OpenFile, Output, put};
+use crate::folders::{walk, warn_of_others};
 use crate::hashes::Hashes;
 use crate::key::{Form, are_digits, read_key};
 use crate::messages::{
@@ -26,12 +28,14 @@ use crate::messages::{
 use crate::options::{Arguments, Options, Stop, joined, read_arguments};
 use crate::seals::print_list;
 use crate::session::{Host, Program, Session};
+use crate::sums::print_sums;
+use blake2_digest::scrub_stack;
 use blake2_streams::Sink;
-use std::alloc::AllocError;
+use std::alloc::{AllocError, Global};
 
 // What comes after `Usage: ` and the program's name.
 const HELP: &[u8] = b" [OPTION].. [FILE]..
-Print or check BLAKE2 digests. With no FILE, or if FILE is -, read standard input.
+Print or check BLAKE2 digests. Without FILE and --recursive, or for -, read standard input.
 
   -a, --algorithm NAME  blake2b (the default), blake2s, blake2bp or blake2sp
   -l, --length BITS     length of the digests: a multiple of 8, at most 512, or 256 for blake2s
@@ -39,7 +43,7 @@ Print or check BLAKE2 digests. With no FILE, or if FILE is -, read standard inpu
   -b, --binary          print * before each name
   -t, --text            print a space before each name (the default)
       --tag             print lines that name the algorithm
-      --seal            print lines as --tag does, and one more that seals them under the key
+      --seal            print lines as --tag does, and one that seals them; needs --key-file
   -z, --zero            end each line with a zero byte, and do not escape names
       --no-names        print only the digits of each digest
       --raw             print only the bytes of the digest of one FILE
@@ -47,16 +51,22 @@ Print or check BLAKE2 digests. With no FILE, or if FILE is -, read standard inpu
                         at most 64, or 32 for blake2s and blake2sp
       --key-hex-file FILE
                         use the key that the hexadecimal digits of the file write
+      --derive-key CONTEXT
+                        for the purpose CONTEXT, use a key that is derived from that of the file
       --salt HEX        use this salt: at most 16 bytes, or 8 for blake2s and blake2sp
       --personal HEX    use this personalization: at most 16 bytes, or 8 for blake2s and blake2sp
       --personal-text TEXT
                         use the bytes of TEXT as the personalization
-      --tree LEAF       print roots of trees of blake2b with leaves of LEAF bytes
+      --tree LEAF       print roots of trees of blake2b with leaves of LEAF bytes, such as 65536,
+                        which is fastest for large files
+      --recursive DIR   print the lines of all files in DIR and below; with --check --sealed, name
+                        what is there and not in the list
   -c, --check           read digests from the FILEs and check them
+      --expect DIGEST   check that each FILE has this digest, whose digits tell its length
       --ignore-missing  do not fail for missing files
       --quiet           do not print OK
       --status          print nothing, the status shows success
-      --sealed          check lists that --seal printed, and believe none whose seal does not hold
+      --sealed          with --check, believe only lists whose seal holds; needs --key-file
       --strict          fail for improperly formatted lines
       --show-digests    print the expected and the found digest of each file that differs
   -w, --warn            warn about each line that is improperly formatted or needs other options
@@ -70,6 +80,9 @@ options, or output that cannot be written.
 ";
 
 const VERSION: &[u8] = b"b2sum (Vulfsjor) 0.1.0\n";
+
+// The bytes of the stack that are overwritten after a key file is read: more than that needs.
+const KEY_STACK_BYTES: usize = 4096;
 
 // The bytes of the shortest MACs that nobody guesses.
 const MAC_BYTES: usize = 16;
@@ -195,12 +208,58 @@ fn run_task<H: Hashes, D: Disk, K: Output, E: Sink>(
     };
     warn_if_short(&host.program, &options, session);
     session.make_room(host.program.alloc, host.hashes.piece_bytes(&options))?;
-    let names = files.as_slice();
+    do_task(host, &options, session, files)
+}
+
+// Does what the options say for these files. Returns whether all went well.
+fn do_task<H: Hashes, D: Disk, K: Output, E: Sink>(
+    host: &Host<H, D>,
+    options: &Options,
+    session: &mut Session<D::File, K, E>,
+    files: Vec<Vec<u8>>,
+) -> Result<bool, Fault>
+    requires { options.now.bytes ≤ 64 }
+    ensures done { AreDone options.now.checks
+        (world_of host.now.program.name.items D.File.named D.File.failed D.File.failure
+        (D.files host.now.disk) H.hashing) options.now
+        (map (λ name. name.items) files.items) session.old session.new (result_ok result) }
+    ensures write { IsErrOf result Fault.WriteFailed → session.new.output_failed ≡ true }
+{
     if options.checks {
-        check_manifests(host, &options, session, names)
-    } else {
-        print_list(host, &options, session, names)
+        return check_manifests(host, options, session, files.as_slice());
     }
+    if options.folders.is_empty() {
+        return print_list(host, options, session, files.as_slice());
+    }
+    print_with_folders(host, options, session, files)
+}
+
+// Prints the lines of these files, and those of all files in the folders of the options and below.
+// Returns whether all were read, and each folder could be listed.
+fn print_with_folders<H: Hashes, D: Disk, K: Output, E: Sink>(
+    host: &Host<H, D>,
+    options: &Options,
+    session: &mut Session<D::File, K, E>,
+    files: Vec<Vec<u8>>,
+) -> Result<bool, Fault>
+    requires { options.now.bytes ≤ 64 }
+    ensures printed { ArePrintedBelow
+        (world_of host.now.program.name.items D.File.named D.File.failed D.File.failure
+        (D.files host.now.disk) H.hashing) options.now
+        (map (λ folder. folder.items) options.now.folders.items)
+        (map (λ name. name.items) files.items) session.old session.new (result_ok result)
+        ⊎ ((result_ok result ≡ None) × (session.new.held ≡ session.old.held)) }
+    ensures write { IsErrOf result Fault.WriteFailed → session.new.output_failed ≡ true }
+{
+    let mut files = files;
+    let (mut found, are_listed) = walk(host, session, options.folders.as_slice())?;
+    warn_of_others(&host.program, session, found.others.as_slice())?;
+    files.append(&mut found.files)?;
+    if are_listed {
+        return print_list(host, options, session, files.as_slice());
+    }
+    print_sums(host, options, session, files.as_slice())?;
+    Ok(false)
 }
 
 // Warns of MACs that are short enough to be guessed.
@@ -227,21 +286,19 @@ fn with_key<H: Hashes, D: Disk, K: Output, E: Sink>(
 ) -> Result<Option<Options>, Fault>
     ensures options { (c : Choice) → AreOptions c options
         → option_map (λ name. name.items) key_file ≡ c.key_file
-        → IfOk result (λ found. IfSome found (λ o. AreOptions c o
-        × HasKey (world_of host.now.program.name.items D.File.named D.File.failed D.File.failure
-        (D.files host.now.disk) H.hashing)
-        session.old.left c o)) }
+        → IfOk result (λ found. IfSome found (AreOptions c)) }
+    ensures keyed { (c : Choice) → AreOptions c options
+        → option_map (λ name. name.items) key_file ≡ c.key_file
+        → IfOk result (λ found. IfSome found (λ o. HasReadKey
+        (world_of host.now.program.name.items D.File.named D.File.failed D.File.failure
+        (D.files host.now.disk) H.hashing) c o session.old session.new)) }
     ensures bytes { IfOk result (λ found. IfSome found (λ o. o.bytes ≡ options.bytes)) }
     ensures held { session.new.held ≡ session.old.held }
-    ensures kept { IfOk result (λ found. IfSome found (λ o. TakesKey
-        (world_of host.now.program.name.items D.File.named D.File.failed D.File.failure
-        (D.files host.now.disk) H.hashing)
-        (option_map (λ name. name.items) key_file) o session.old session.new)) }
     ensures keyless { IfOk result (λ found. found ≡ None → IsKeyless
         (world_of host.now.program.name.items D.File.named D.File.failed D.File.failure
         (D.files host.now.disk) H.hashing)
         (option_map (λ name. name.items) key_file) options.key_is_hex
-        (max_bytes options.algorithm) session.old session.new) }
+        (key_most options) session.old session.new) }
     ensures memory { IsOkUnless result Fault.NoMemory }
 {
     let Some(name) = key_file else {
@@ -249,30 +306,72 @@ fn with_key<H: Hashes, D: Disk, K: Output, E: Sink>(
     };
     let form = Form {
         is_hex: options.key_is_hex,
-        most: options.algorithm.max_bytes(),
+        most: key_most(&options),
     };
     let is_hidden = host.disk.hide_memory();
-    let Some(key) = read_key(host, session, name.as_slice(), form, is_hidden)? else {
+    let key = read_key(host, session, name.as_slice(), form, is_hidden)?;
+    scrub_stack::<KEY_STACK_BYTES>();
+    let Some(key) = key else {
         return Ok(None);
     };
-    options.key = key;
-    warn_if_digits(&host.program, &options, session, name.as_slice())?;
+    warn_if_digits(
+        &host.program,
+        form,
+        session,
+        name.as_slice(),
+        key.as_slice(),
+    )?;
+    options.key = key_from(host.program.alloc, &host.hashes, &options, key)?;
     Ok(Some(options))
+}
+
+// Returns the most bytes of the key of a key file.
+fn key_most(options: &Options) -> usize
+    ensures is { result ≡ key_most options.now }
+    ensures most { result ≤ 64 }
+{
+    if options.context.is_some() {
+        64
+    } else {
+        options.algorithm.max_bytes()
+    }
 }
 
 // Warns of a key that is read from the file of this name as it is, and is only hexadecimal digits.
 fn warn_if_digits<F: OpenFile, K: Output, E: Sink>(
     program: &Program,
-    options: &Options,
+    form: Form,
     session: &mut Session<F, K, E>,
     name: &[u8],
+    key: &[u8],
 ) -> Result<(), AllocError>
-    ensures told { OnOk result (WarnsOfDigits program.now.name.items (Some name.now) options.now
-        session.old session.new) }
+    ensures told { OnOk result (WarnsOfDigits program.now.name.items (Some name.now) form.is_hex
+        key.now session.old session.new) }
     ensures only { OnlyTells session.old session.new }
 {
-    if !options.key_is_hex && are_digits(options.key.as_slice()) {
+    if !form.is_hex && are_digits(key) {
         warn_of_key_digits(program, &mut session.messages, name)?;
     }
     Ok(())
+}
+
+// Returns the key of the digests, from that of a key file.
+fn key_from<H: Hashes>(
+    alloc: Global,
+    hashes: &H,
+    options: &Options,
+    key: Vec<u8>,
+) -> Result<Vec<u8>, AllocError>
+    requires some { 1 ≤ length key.items }
+    requires fits { length key.items ≤ 64 }
+    ensures { IfOk result (λ found. found.items ≡ key_from H.hashing
+        (option_map (λ text. text.items) options.now.context) (max_bytes options.now.algorithm)
+        key.items) }
+{
+    let Some(context) = &options.context else {
+        return Ok(key);
+    };
+    let mut derived = vec![in alloc; 0u8; options.algorithm.max_bytes()]?;
+    hashes.derive_key(key.as_slice(), context.as_slice(), derived.as_mut_slice());
+    Ok(derived)
 }

@@ -11,13 +11,14 @@ ghost use Rattle.b2sum_commands.specs.ManifestChecks.{IsText};
 ghost use Rattle.b2sum_commands.specs.Manifests.{BeginsLine, IsLine};
 ghost use Rattle.b2sum_commands.specs.Messages.{Cannot, is_standard_input, message};
 ghost use Rattle.b2sum_commands.specs.Reports.{AreCounted};
-ghost use Rattle.b2sum_commands.specs.SealedLists.{IsCheckedAs, IsOverlong, IsUnlisted};
-ghost use Rattle.b2sum_commands.specs.SealedLists.{long_reason};
+ghost use Rattle.b2sum_commands.specs.LongLists.{IsOverlong, long_reason};
+ghost use Rattle.b2sum_commands.specs.SealedLists.{IsCheckedAs, IsUnlisted};
 ghost use Rattle.b2sum_commands.specs.World.{HasError, InTurn, IsStopped, IsWritten, world_of};
 
 use crate::ahead::Ahead;
 use crate::check::{Counts, check_line, end_manifest};
 use crate::devices::{Disk, Fault, OpenFile, Output};
+use crate::folder_checks::has_all;
 use crate::hashes::Hashes;
 use crate::listed_ahead::{Unchecked, go_on_in_list};
 use crate::messages::{warn_of_file, warn_of_name};
@@ -29,15 +30,16 @@ use blake2_streams::Sink;
 use std::alloc::{AllocError, Global};
 use text_lines::split_line;
 
-// The most bytes of a list.
-const MOST_BYTES: usize = 1 << 28;
+/// The most bytes of a list.
+pub(crate) const MOST_BYTES: usize = 1 << 28;
 
 // The number of bytes that a read requests.
 const PIECE_BYTES: usize = 1 << 16;
 
 /// Checks the sealed list of this name, or standard input for `-`. All of it is read once, and
 /// nothing of it is used before its last line is found to seal it. Then it is checked as a manifest
-/// is. Returns whether it is sealed, and holds as a manifest.
+/// is, and all that is in the folders of the options has to be listed. Returns whether it is
+/// sealed, holds as a manifest, and lists that.
 pub(crate) fn check_sealed<H: Hashes, D: Disk, K: Output, E: Sink>(
     host: &Host<H, D>,
     options: &Options,
@@ -60,14 +62,13 @@ pub(crate) fn check_sealed<H: Hashes, D: Disk, K: Output, E: Sink>(
         warn_of_name(&host.program, &mut session.messages, name, reason)?;
         return Ok(false);
     }
-    let counts = check_text(host, options, session, is_standard_input(name), text)?;
-    end_manifest(
-        &host.program,
-        options,
-        &mut session.messages,
-        name,
-        Some(counts),
-    )
+    let is_input = is_standard_input(name);
+    let spacing = session.spacing();
+    let counts = check_text(host, options, session, is_input, text)?;
+    let (program, messages) = (&host.program, &mut session.messages);
+    let holds = end_manifest(program, options, messages, name, Some(counts))?;
+    let has_all = has_all(host, options, session, spacing, is_input, text)?;
+    Ok(holds & has_all)
 }
 
 // Returns all bytes of the list of this name. The result is `None` if it cannot be read, or has
@@ -102,8 +103,8 @@ fn read_list<H: Hashes, D: Disk, K: Output, E: Sink>(
     }
 }
 
-// Returns all bytes of an open list of this name, as `read_list` does.
-fn read_list_from<H, D: Disk, E: Sink>(
+/// Returns all bytes of an open list of this name, as `read_list` does.
+pub(crate) fn read_list_from<H, D: Disk, E: Sink>(
     host: &Host<H, D>,
     file: &mut D::File,
     name: &[u8],
@@ -131,7 +132,7 @@ fn read_list_from<H, D: Disk, E: Sink>(
         return Ok(None);
     };
     if list.len() > most {
-        let reason = b"a sealed list has at most 268435456 bytes";
+        let reason = b"the list has more than 268435456 bytes";
         warn_of_name(&host.program, messages, name, reason)?;
         return Ok(None);
     }

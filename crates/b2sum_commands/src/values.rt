@@ -5,9 +5,10 @@ ghost use Rattle.std.specs.List.{list_all};
 ghost use Rattle.std.specs.Result.{result_ok};
 ghost use Rattle.b2sum_commands.specs.CommandLine.{number_in, without_blanks, without_plus};
 ghost use Rattle.b2sum_commands.specs.CommandLine.{leaf_in, bits_in, bytes_in, algorithm_in};
-ghost use Rattle.b2sum_commands.specs.CommandLine.{is_zero, text_in, threads_in};
+ghost use Rattle.b2sum_commands.specs.CommandLine.{digest_in, is_zero, text_in, threads_in};
 ghost use Rattle.b2sum_commands.specs.CommandLineViews.{IsRefusal, IsWrong};
 
+use crate::digest::ExpectedDigest;
 use crate::options::{Stop, joined};
 use crate::quoting::quoted_value;
 use b2sum_lines::Algorithm;
@@ -52,6 +53,11 @@ pub(crate) fn algorithm_of(alloc: Global, value: &[u8]) -> Result<Algorithm, Sto
     Err(Stop::Usage(text))
 }
 
+// Why hexadecimal digits are refused.
+const NO_DIGITS: &[u8] = b"the value has no digits";
+
+const NOT_DIGITS: &[u8] = b"the value is not hexadecimal digits, two for each byte";
+
 // Why a salt and a personalization of zeros are refused: BLAKE2 pads those that are not there with
 // zeros.
 const ZEROS: &[u8] = b"a value of zeros only is the same as none";
@@ -62,7 +68,7 @@ pub(crate) fn bytes_of(alloc: Global, line: &[u8], value: &[u8]) -> Result<Vec<u
     ensures stop { IfErr result (IsWrong (bytes_in value.now)) }
 {
     if value.is_empty() {
-        return Err(wrong_value(alloc, line, value, b"the value has no digits"));
+        return Err(wrong_value(alloc, line, value, NO_DIGITS));
     }
     match hex::decode(alloc, value) {
         Ok(bytes) => {
@@ -72,10 +78,28 @@ pub(crate) fn bytes_of(alloc: Global, line: &[u8], value: &[u8]) -> Result<Vec<u
             Ok(bytes)
         }
         Err(FromHexError::OutOfMemory) => Err(Stop::NoMemory),
-        Err(_) => {
-            let reason = b"the value is not hexadecimal digits, two for each byte";
-            Err(wrong_value(alloc, line, value, reason))
+        Err(_) => Err(wrong_value(alloc, line, value, NOT_DIGITS)),
+    }
+}
+
+// Returns the digest that hexadecimal digits write: 1 to 64 bytes.
+pub(crate) fn digest_of(alloc: Global, value: &[u8]) -> Result<ExpectedDigest, Stop>
+    ensures digest { IfOk result (λ digest. digest_in value.now ≡ Some digest.bytes.items) }
+    ensures stop { IfErr result (IsWrong (digest_in value.now)) }
+{
+    let line = b"invalid digest: ";
+    if value.is_empty() {
+        return Err(wrong_value(alloc, line, value, NO_DIGITS));
+    }
+    match hex::decode(alloc, value) {
+        Ok(bytes) => {
+            if bytes.len() > 64 {
+                return Err(wrong_value(alloc, line, value, b"a digest has at most 512 bits"));
+            }
+            Ok(ExpectedDigest { bytes })
         }
+        Err(FromHexError::OutOfMemory) => Err(Stop::NoMemory),
+        Err(_) => Err(wrong_value(alloc, line, value, NOT_DIGITS)),
     }
 }
 

@@ -4,7 +4,7 @@ use Rattle.b2sum_commands.proofs.EndedByErrors.{stops}
 use Rattle.b2sum_commands.proofs.DoneInTurn.{sofar_start, name_step, name_stops, names_end}
 use Rattle.b2sum_commands.proofs.DoneInTurn.{items_of}
 use Rattle.b2sum_commands.specs.World.{world_of, AllInTurn, Ends, Stops}
-use Rattle.b2sum_commands.specs.SealedLists.{IsCheckedAs}
+use Rattle.b2sum_commands.specs.SealedLists.{IsCheckedBy}
 use Rattle.b2sum_commands.proofs.check.check_manifests.Goals as goal
 
 pub loop-name-init : goal.loop-name-init
@@ -36,7 +36,7 @@ returns-in_err-holds-clause-checked g c =
     g.D.File.OpenFile.named g.D.File.OpenFile.failed
     g.D.File.OpenFile.failure (g.D.Disk.files c.args.host.now.disk)
     g.H.Hashes.hashing in
-    let does = IsCheckedAs c.args.options.now.is_sealed w c.args.options.now in
+    let does = IsCheckedBy w c.args.options.now in
     let names = c.args.names.now in
     let before = c.loop-name.invariant in
     stops (AllInTurn does (items_of names) c.args.session.now c.check_list.new.session)

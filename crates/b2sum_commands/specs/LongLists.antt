@@ -1,0 +1,12 @@
+-- Lists that are read as a whole, and have too many bytes for that.
+use Rattle.std.specs.Prelude.{ℕ, ◌<◌, List, length, codes, Option}
+use Rattle.std.specs.Io.KnownBytes.{Consumes}
+
+-- A list has more bytes than these, and is not read.
+abbrev pub IsOverlong : Option (List ℕ) → ℕ → Type 0
+IsOverlong held most = (bytes : List ℕ) × (end : Option (List ℕ)) × Consumes held end bytes
+    × (most < length bytes)
+
+-- Why a list is not read.
+abbrev pub long_reason : List ℕ
+long_reason = codes "the list has more than 268435456 bytes"
