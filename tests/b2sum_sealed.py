@@ -129,7 +129,7 @@ def test_checked(runs):
         runs.wants([*CHECK, name], "", f"{name}: {os.strerror(reason)}", 1)
     with open(runs.path("long"), "wb") as file:
         file.truncate(MOST + 1)
-    runs.wants([*CHECK, "long"], "", f"long: a sealed list has at most {MOST} bytes", 1)
+    runs.wants([*CHECK, "long"], "", f"long: the list has more than {MOST} bytes", 1)
     with open(runs.path("long"), "r+b") as file:
         file.truncate(MOST)
     runs.wants([*CHECK, "long"], "", BROKEN.format("long"), 1)
