@@ -11,16 +11,21 @@ _b2sum() {
             [[ ${COMP_WORDS[*]} == *blake2s* ]] || words+=" 384 512"
             ;;
         --tree) words="65536" ;;
-        --personal | --personal-text | --salt | --threads) return ;;
+        --derive-key | --expect | --personal | --personal-text | --salt | --threads) return ;;
+        --recursive)
+            compopt -o filenames
+            mapfile -t COMPREPLY < <(compgen -d -- "$word")
+            return
+            ;;
         *)
             if [[ $word != -* ]]; then
                 compopt -o filenames
                 mapfile -t COMPREPLY < <(compgen -f -- "$word")
                 return
             fi
-            words="--algorithm --binary --check --help --ignore-missing --key-file --key-hex-file --length --no-names
-                --personal --personal-text --progress --quiet --raw --salt --seal --sealed --show-digests --status
-                --strict --tag --text --threads --tree --version --warn --zero"
+            words="--algorithm --binary --check --derive-key --expect --help --ignore-missing --key-file --key-hex-file
+                --length --no-names --personal --personal-text --progress --quiet --raw --recursive --salt --seal
+                --sealed --show-digests --status --strict --tag --text --threads --tree --version --warn --zero"
             ;;
     esac
     mapfile -t COMPREPLY < <(compgen -W "$words" -- "$word")

@@ -200,8 +200,8 @@ sums_by_zsh() {
 values_by_zsh() {
     local spec equals="="
     [[ $1 == --* ]] || equals=
-    spec=$(sums_by_zsh | sed -nE "s/^(\(.*\))?$1$equals\[[^]]*\]//p")
-    sed 's/.*://;s/_files/file/;s/[()]//g;s/ /\n/g' <<<"${spec:-$(sums_by_zsh | grep '^\*:')}"
+    spec=$(sums_by_zsh | sed -nE "s/^(\(.*\)|\*)?$1$equals\[[^]]*\]//p")
+    sed 's/.*://;s/_files/file/;s/_directories//;s/[()]//g;s/ /\n/g' <<<"${spec:-$(sums_by_zsh | grep '^\*:')}"
 }
 # In a folder with one file.
 offers() {
@@ -253,6 +253,9 @@ b2sum --threads .:
 b2sum --personal .:
 b2sum --personal-text .:
 b2sum --salt .:
+b2sum --derive-key .:
+b2sum --expect .:
+b2sum --recursive .:
 b2sum --key-file .:file
 b2sum --check .:file
 b2sum .:file
@@ -263,7 +266,7 @@ options_by() {
     case $1 in
         bash) by_bash b2sum -- ;;
         zsh) sums_by_zsh |
-            sed -nE 's/^(\((-.) (--[a-z-]+)\)(\2|\3)|(--[a-z-]+))=?\[[^]]*\].*/\4\5/p' ;;
+            sed -nE 's/^(\((-.) (--[a-z-]+)\)(\2|\3)|\*?(--[a-z-]+))=?\[[^]]*\].*/\4\5/p' ;;
         fish) by_fish b2sum - ;;
     esac | sort
 }
@@ -280,7 +283,8 @@ bash_words() {
             by_bash b2sum -ablake2s -l 25 && by_bash b2sum -a blake2bp --length = 5) \
             <(printf '%s\n' "" "" 256 512) &&
         cd "$work/folder" && touch "a file" &&
-        [ "$(by_bash b2sum "a f")" = $'-o filenames\na file' ] &&
+        [ "$(by_bash b2sum "a f")" = $'-o filenames\na file' ] && mkdir -p "a folder" &&
+        [ "$(by_bash b2sum --recursive a)" = $'-o filenames\na folder' ] &&
         bash --norc -c 'for name; do source "$0/completions/$name.bash"; done; complete -p "$@"' "$top" b2 b2sum |
         diff - <(printf 'complete -F _%s\n' 'b2 b2' 'b2sum b2sum') &&
         [ "$(grep -cxE '#compdef b2sum|_arguments -s \\' "$top/completions/_b2sum")" -eq 2 ]
