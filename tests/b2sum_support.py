@@ -12,6 +12,7 @@ import sys
 import tempfile
 
 import tap
+from b2_model import B, Input, output
 from common import TOP
 from oracle import parallel_digest, tree_root
 
@@ -131,6 +132,15 @@ def run_with_fault(runs, *given, **more):
     return found if more.get("key") else found and found[0]
 
 
+def scan_memory(runs, words, key, call, at):
+    """What a run has in its memory at a call: the number of pieces of the key, whether the process can be dumped, and
+    whether it can leave a core file; or nothing if there is no such call."""
+    digits = bytes(255 - byte for byte in key).hex()
+    got = run_with_fault(runs, words, b"abc", call, at, at, 0, key=digits)
+    runs.holds([*words, call, at], not got or got[0][1:] == (b"", 0), got)
+    return got and tuple(map(int, got[1].split()))
+
+
 def escaped(name):
     for byte, text in (("\\", "\\\\"), ("\n", "\\n"), ("\r", "\\r")):
         name = name.replace(byte, text)
@@ -150,6 +160,12 @@ def digest(family, data, size, **parameters):
 def longest(family):
     """The bits of the longest digest of a family."""
     return 256 if family[0] == "s" else 512
+
+
+@functools.cache
+def derived_key(key, context, family="b"):
+    """The key of the digests of a family that --derive-key makes for a context from the key of a file."""
+    return output(B, longest(family) // 8, Input(os.fsencode(context), key))
 
 
 def needs_of_tag(key=b"", salt=b"", person=b""):
@@ -197,6 +213,23 @@ def lines(**more):
 def root_line(name, data, leaf, bits=512, **texts):
     """The line of the root of a tree."""
     return line(name, data, bits, f"tree-{leaf}", **texts)
+
+
+def damage_line(rng, line):
+    """A line of a manifest with one of many damages, of which the last ones are at a place in it."""
+    at, one_of = rng.randrange(len(line) + 1), lambda *texts: rng.choice(texts)
+    return rng.choice([
+        lambda: line.upper(), lambda: one_of(b" ", b"\t", b"  \t", b"\\", b" \\", b"#") + line,
+        lambda: line + one_of(b"\r", b" ", b"\r\r", b"\\", b")", b"x"),
+        lambda: line.replace(b"  ", one_of(b" ", b" *", b"\t", b"\t ", b"\t*", b"   "), 1),
+        lambda: line.replace(b" (", one_of(b" (", b"("), 1).replace(
+            b") = ", one_of(b") = ", b")=", b")  =\t", b") =", b")x= "), 1),
+        lambda: one_of(b"", b"#", b"\r", b" ", b"ab", b"ab ", b"ab  ", b"ab  x", b"nonsense", b"\\", line[2:]),
+        lambda: line.replace(b"BLAKE2b", one_of(b"BLAKE2s", b"blake2b", b"BLAKE2b-512", b"BLAKE2b-8", b"BLAKE2b-",
+                                                b"SHA256"), 1),
+        lambda: line[:at] + bytes([rng.choice(b" \\()=-*\tgAfF0z\r#")]) + line[at:],
+        lambda: line[:at] + bytes([rng.choice(b"0123456789abcdefABCDEF")]) + line[at + 1:],
+        lambda: one_of(line[:at], line[:at] + line[at + 1:])])()
 
 
 def run_tests(tests, others=(), faulty=()):

@@ -19,7 +19,7 @@ import socket
 import subprocess
 
 from b2sum_support import (
-    FILES, check_line, filled_pipe, line, lines, outcome_of_fault, root_line, run_tests, run_with_fault)
+    FILES, check_line, filled_pipe, line, lines, outcome_of_fault, root_line, run_tests, run_with_fault, scan_memory)
 
 HUGE = bool(os.environ.get("VULFSJOR_TEST_HUGE"))
 CALLS = {"readv": errno.EIO, "openat": errno.EACCES, "write": errno.ENOSPC, "malloc": errno.ENOMEM,
@@ -28,15 +28,6 @@ CALLS = {"readv": errno.EIO, "openat": errno.EACCES, "write": errno.ENOSPC, "mal
 # that of a reset.
 MOST_COPIES = {"b": 3, "s": 3, "bp": 6, "sp": 10}
 NAME_REQUESTS = 3  # for memory, before the name of the program is known
-
-
-def scan_memory(runs, words, key, call, at):
-    """What a run has in its memory at a call: the number of pieces of the key, whether the process can be dumped, and
-    whether it can leave a core file; or nothing if there is no such call."""
-    digits = bytes(255 - byte for byte in key).hex()
-    got = run_with_fault(runs, words, b"abc", call, at, at, 0, key=digits)
-    runs.holds([*words, call, at], not got or got[0][1:] == (b"", 0), got)
-    return got and tuple(map(int, got[1].split()))
 
 
 def test_secrets(runs):

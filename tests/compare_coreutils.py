@@ -32,7 +32,7 @@ import tempfile
 
 import b2sum_support
 import tap
-from b2sum_support import programs
+from b2sum_support import damage_line, programs
 
 HUGE = bool(os.environ.get("VULFSJOR_TEST_HUGE"))
 NAMES = [
@@ -114,23 +114,6 @@ def line_of(rng, name, data):
     bits = rng.choice([512, 512, 8 * rng.randint(1, 64)])
     return os.fsencode(b2sum_support.line(
         os.fsdecode(name), data, bits, mark=rng.choice(" *"), tag=rng.random() < 0.3).removesuffix("\n"))
-
-
-def damage_line(rng, line):
-    """The line with one of many damages, of which the last ones are at a place in it."""
-    at, one_of = rng.randrange(len(line) + 1), lambda *texts: rng.choice(texts)
-    return rng.choice([
-        lambda: line.upper(), lambda: one_of(b" ", b"\t", b"  \t", b"\\", b" \\", b"#") + line,
-        lambda: line + one_of(b"\r", b" ", b"\r\r", b"\\", b")", b"x"),
-        lambda: line.replace(b"  ", one_of(b" ", b" *", b"\t", b"\t ", b"\t*", b"   "), 1),
-        lambda: line.replace(b" (", one_of(b" (", b"("), 1).replace(
-            b") = ", one_of(b") = ", b")=", b")  =\t", b") =", b")x= "), 1),
-        lambda: one_of(b"", b"#", b"\r", b" ", b"ab", b"ab ", b"ab  ", b"ab  x", b"nonsense", b"\\", line[2:]),
-        lambda: line.replace(b"BLAKE2b", one_of(b"BLAKE2s", b"blake2b", b"BLAKE2b-512", b"BLAKE2b-8", b"BLAKE2b-",
-                                                b"SHA256"), 1),
-        lambda: line[:at] + bytes([rng.choice(b" \\()=-*\tgAfF0z\r#")]) + line[at:],
-        lambda: line[:at] + bytes([rng.choice(b"0123456789abcdefABCDEF")]) + line[at + 1:],
-        lambda: one_of(line[:at], line[:at] + line[at + 1:])])()
 
 
 def is_left_out(line):
