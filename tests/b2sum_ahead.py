@@ -8,6 +8,7 @@ Only the first program is tested: the others are the same program, with older bu
 
 usage: tests/b2sum_ahead.py [PROGRAM..]
 """
+import collections
 import errno
 import functools
 import itertools
@@ -22,6 +23,7 @@ import subprocess
 import threading
 import time
 
+from b2sum_model import run_of_check, warnings
 from b2sum_support import (
     check_line, fault_variables, filled_pipe, line, longest, outcome_of_fault, run_tests, run_with_fault, shown_of)
 
@@ -70,10 +72,8 @@ def check_of(names, files, found):
     outcomes = ["FAILED open or read" if isinstance(it, int) else "OK" if it == files[name] else "FAILED"
                 for name, it in zip(names, found)]
     said = [f"{name}: {os.strerror(it)}" for name, it in zip(names, found) if isinstance(it, int)]
-    for outcome, one, many in (("FAILED open or read", "listed file", "could not be read"),
-                               ("FAILED", "computed checksum", "did NOT match")):
-        count = outcomes.count(outcome)
-        said += [f"WARNING: {count} {one}{'s' * (count > 1)} {many}"] * (count > 0)
+    said += warnings(collections.Counter({"unread": outcomes.count("FAILED open or read"),
+                                          "different": outcomes.count("FAILED")}))
     return (os.fsencode("".join(map(check_line, names, outcomes))),
             os.fsencode("".join(f"b2sum: {it}\n" for it in said)), int(outcomes.count("OK") < len(names)))
 
@@ -629,8 +629,8 @@ def random_line(rng, files):
 
 
 def test_manifests(runs):
-    """Random manifests of many files are checked as with --progress, from a file and from standard input. Some of their
-    files are read early."""
+    """Random manifests of many files are checked as the model says, also with --progress, from a file and from standard
+    input. Some of their files are read early."""
     rng = random.Random(7)
     files = {f"f{i}": rng.randbytes(rng.choice((2048, 3000, 20000, 70000))) for i in range(60)}
     write_all(runs, files)
@@ -643,9 +643,10 @@ def test_manifests(runs):
         runs.write("sums", data)
         options = ["-w", "--strict", "--ignore-missing", "--quiet", "--show-digests"]
         words = ["-c", *rng.sample(options, rng.randrange(3)), *rng.choice(([], ["sums"], ["sums", "sums"]))]
-        wanted = runs.run([*words, "--progress"], data)
-        got, log = runs.run(words, data, env=logged(runs)), log_of(runs)
-        runs.holds([seed, *words], got == wanted, (got, wanted))
+        out, errs, status = run_of_check(words, runs.folder, data)
+        for more in (["--progress"], []):
+            got, log = runs.run([*words, *more], data, env=logged(runs)), log_of(runs)
+            runs.holds([seed, *words, *more], got == (out, errs[0], status), (got, out, errs, status))
         early += sum(it.startswith("ahead f") for it in log)
     runs.holds("files that are read early", early > 0)
     runs.ends(f"random manifests, of which {early} files are read early")

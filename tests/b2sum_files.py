@@ -9,7 +9,6 @@ program with that of coreutils.
 
 usage: tests/b2sum_files.py [PROGRAM..]
 """
-import collections
 import errno
 import hashlib
 import itertools
@@ -19,6 +18,7 @@ import re
 import shutil
 import subprocess
 
+from b2sum_model import LIKE_DIGITS, SHORT
 from b2sum_support import (
     FILES, both_digests, check_line, digest, line, lines, longest, root_line, run_tests, shown_of)
 from common import TOP
@@ -135,8 +135,6 @@ def test_parameters(runs):
 
 NO_LINE = "'standard input': no properly formatted checksum lines found"
 NO_MATCH = "WARNING: 1 computed checksum did NOT match"
-SHORT = "WARNING: MACs below 128 bits can be guessed\n"
-LIKE_DIGITS = "has only hexadecimal digits, which --key-hex-file would decode"
 DIGITS = "a key has 2 to 128 hexadecimal digits, two for each byte"
 SHORT_DIGITS = "a key of BLAKE2s or BLAKE2sp has 2 to 64 hexadecimal digits, two for each byte"
 
@@ -410,11 +408,7 @@ def test_trees(runs):
 
 # ---- Random runs.
 
-NEEDED = {"key": "--key-file", "salt": "--salt", "person": "--personal"}
 KEYS = {f"key{length}": bytes(range(length)) for length in (1, 32, 64)}
-# A check: its family, key, salt and personalization; whether it names the family; the bits that it demands, or 0; the
-# options of what it prints, and the last of those that exclude one another; and how often a line is wrong in each way.
-Check = collections.namedtuple("Check", "family given is_named bits options report shares")
 
 
 def random_hash(rng):
@@ -441,126 +435,6 @@ def random_bits(rng, family):
     return 8 * rng.randint(1, longest(family) // 8)
 
 
-def random_options(rng):
-    """The arguments of a check, and what they mean."""
-    words, family, given = random_hash(rng)
-    options = [it for it in ("--strict", "--ignore-missing", "--quiet", "--status", "-w") if rng.random() < 0.3]
-    options += ["--show-digests"] * ("key" not in given and rng.random() < 0.6)  # they exclude one another
-    rng.shuffle(options)
-    report = ([""] + [it for it in options if it in ("--quiet", "--status", "-w")])[-1]
-    bits, is_named = rng.choice([None, None, 0, random_bits(rng, family)]), words[:1] in (["-a"], ["--tree"])
-    words = [*words, "-c", *options, *([] if bits is None else ["-l", str(bits)])]
-    shares = {way: rng.choice([0, 0.3]) for way in ("other", "length", "unread", "different", "malformed")}
-    return words, Check(family, given, is_named, bits or ("key" in given and longest(family)), options, report, shares)
-
-
-def is_slow(family):
-    """Whether it is a tree that a check accepts only by its name."""
-    return family.startswith("tree-") and int(family[5:]) < 1024
-
-
-def lacks_of(check, family, given, bits):
-    """What an entry needs that a check has not: options, those that it must not have, an algorithm, and a length. There
-    is none of these if the check counts the entry (docs/SPECIFICATION.md, 11.2)."""
-    missing, unwanted = given.keys() - check.given.keys(), check.given.keys() - given.keys()
-    is_other = family != check.family
-    if not (missing or unwanted or is_other and (check.is_named or check.given or is_slow(family))
-            or check.bits not in (0, bits)):
-        return [], [], None, None
-    algorithm = family if is_other and (check.is_named or given or is_slow(family)) else None
-    is_longest = not check.bits or algorithm and check.bits == longest(check.family)
-    demands = (check.bits or "key" in given) and "key" not in unwanted
-    return missing, unwanted, algorithm, bits if demands and bits != (
-        longest(family) if is_longest else check.bits) else None
-
-
-def needed(lacks):
-    """The options that several entries need, of which the first tells the algorithm and the length."""
-    missing, unwanted, algorithms, lengths = zip(*lacks)
-    words = [NEEDED[it] for it in NEEDED if any(it in each for each in missing)]
-    words += ["no " + NEEDED[it] for it in NEEDED if any(it in each for each in unwanted)]
-    words += [f"--{'algorithm blake2' * (it[0] != 't')}{it.replace('-', ' ')}" for it in filter(None, algorithms)][:1]
-    words += [f"--length {bits}" for bits in filter(None, lengths)][:1]
-    return " ".join(words)
-
-
-def random_line(rng, check):
-    """A line of a manifest, the name in it, the digest or none, that of the file, and what it lacks."""
-    is_now = {way: rng.random() < share for way, share in check.shares.items()}
-    family, given = random_hash(rng)[1:] if is_now["other"] else (check.family, check.given)
-    has_other_length = is_now["length"] or not 0 < check.bits <= longest(family)
-    bits = random_bits(rng, family) if has_other_length else check.bits
-    name, tag = "none" if is_now["unread"] else rng.choice(list(FILES)), rng.random() < 0.6
-    data = FILES.get(name, b"")
-    other = data + b"x" * is_now["different"]
-    text = line(name, other, bits, family, rng.choice(" *"), tag, **given)
-    listed = digest(family, other, bits // 8, **given)
-    if not tag and not family.startswith("tree-"):  # then it is of the algorithm of the check
-        is_entry = not check.family.startswith("tree-") and bits <= longest(check.family)
-        family, given = check.family, check.given
-        listed = listed if is_entry else None
-    if is_now["malformed"]:
-        text, listed = "x" + text, None
-    lacks = lacks_of(check, family, given, bits)
-    found = listed and not any(lacks) and digest(family, data, bits // 8, **check.given)
-    text = text.replace(listed.hex(), listed.hex().upper()) if listed and rng.random() < 0.2 else text
-    return text, name, listed, found, lacks
-
-
-def kind_of(name, listed, found, lacks, check):
-    """What a check finds for such a line."""
-    if listed is None:
-        return "malformed"
-    if any(lacks):
-        return "unmet"
-    if name == "none":
-        return "skipped" if "--ignore-missing" in check.options else "unread"
-    return "equal" if listed == found else "different"
-
-
-def warnings(counts, lacks, check):
-    """The messages at the end of a manifest with lines of these kinds."""
-    if not counts.total() - counts["malformed"]:
-        return NO_LINE
-    texts = {"malformed": ("line is improperly formatted", "lines are improperly formatted"),
-             "unmet": ("line needs other options", "lines need other options"),
-             "unread": ("listed file could not be read", "listed files could not be read"),
-             "different": ("computed checksum did NOT match", "computed checksums did NOT match")}
-    said = [f"'standard input': lines need {needed(lacks)}"] if lacks else []
-    said += [f"WARNING: {counts[kind]} {text[counts[kind] > 1]}" for kind, text in texts.items() if counts[kind]]
-    if "--ignore-missing" in check.options and not counts["equal"]:
-        said.append("'standard input': no file was verified")
-    return "" if check.report == "--status" else "\n".join(said)
-
-
-def random_check(rng, runs):
-    """A check of random entries, some of which differ, are not there, need other options or are malformed."""
-    words, check = random_options(rng)
-    counts, lacks = collections.Counter(), []
-    text = out = ""
-    err = SHORT if "key" in check.given and check.bits < 128 else ""
-    for number in range(1, rng.randint(2, 9)):
-        entry, name, listed, found, lacking = random_line(rng, check)
-        text += entry
-        kind = kind_of(name, listed, found, lacking, check)
-        counts[kind] += 1
-        if kind == "unmet":
-            lacks.append(lacking)
-            err += f"'standard input': {number}: needs {needed([lacking])}\n" if check.report == "-w" else ""
-        if kind == "malformed" and check.report == "-w":
-            tag = "BLAKE2" + "b-" * check.family.startswith("tree-") + check.family
-            err += f"'standard input': {number}: improperly formatted {tag} checksum line\n"
-        err += f"none: {os.strerror(errno.ENOENT)}\n" if kind == "unread" else ""
-        outcome = {"equal": "OK", "different": "FAILED", "unread": "FAILED open or read"}.get(kind)
-        if outcome and check.report != "--status" and (outcome, check.report) != ("OK", "--quiet"):
-            out += check_line(name, outcome)
-            out += both_digests(listed, found) if kind == "different" and "--show-digests" in check.options else ""
-    fails = counts["different"] + counts["unread"] + counts["unmet"] or not counts["equal"]
-    is_strict = "--strict" in check.options or "key" in check.given
-    runs.wants(words, out, err + warnings(counts, lacks, check), int(bool(fails or is_strict and counts["malformed"])),
-               os.fsencode(text))
-
-
 def random_sum(rng, runs):
     """What is printed of random files, of one that is not there, and of standard input, by a random hash."""
     words, family, given = random_hash(rng)
@@ -575,13 +449,12 @@ def random_sum(rng, runs):
 
 
 def test_random(runs):
-    """Random digests and checks: docs/SPECIFICATION.md, 11, and the manual."""
+    """Random digests: docs/SPECIFICATION.md, 11, and the manual. tests/b2sum_checks.py has random checks."""
     for name, key in KEYS.items():
         runs.write(name, key)
-    for seed in range(2000 if HUGE else 600):
-        rng = random.Random(seed)
-        (random_sum if rng.random() < 0.3 else random_check)(rng, runs)
-    runs.ends("random digests and checks")
+    for seed in range(600 if HUGE else 180):
+        random_sum(random.Random(seed), runs)
+    runs.ends("random digests")
 
 
 # ---- What other programs do.

@@ -7,8 +7,8 @@ Only the first program is tested: the others are the same program, with older bu
 
 usage: tests/b2sum_folders.py [PROGRAM..]
 """
+import collections
 import errno
-import hashlib
 import itertools
 import os
 import random
@@ -16,14 +16,14 @@ import resource
 import shutil
 import signal
 import socket
-import stat
 import subprocess
 import time
 
+from b2sum_model import UNLISTED, below, data_of, seal, warnings
 from b2sum_support import check_line, fault_variables, line, longest, outcome_of_fault, run_tests, shown_of
 
 HUGE = bool(os.environ.get("VULFSJOR_TEST_HUGE"))
-OTHER, UNLISTED = "is not a regular file", "is not in the list"
+OTHER = "is not a regular file"
 KEY = bytes(range(50, 82))
 SEAL, CHECK = ["--seal", "--key-file", "key"], ["--check", "--sealed", "--key-file", "key"]
 # Parts of names: those that lines or messages show in another form, that are sorted otherwise as text than as bytes,
@@ -38,36 +38,6 @@ def reason(number):
 
 
 # ---- Folders, and what a run has to print.
-
-def below(runs, tops):
-    """What these folders have: the regular files and all else that is no folder, by the names that lines have for them,
-    in their order; and each folder that cannot be listed, with the reason."""
-    files, others, errors = [], [], []
-    for top in tops:
-        base, start = os.path.join(runs.folder, top or "''"), top if top.endswith("/") else f"{top}/"
-
-        def shown(path, base=base, start=start, top=top):
-            rest = os.path.relpath(path, base)
-            return top if rest == "." else start + rest
-
-        for folder, folders, names in os.walk(base, onerror=lambda it: errors.append(
-                (shown(it.filename), reason(it.errno)))):
-            for name in folders + names:
-                path = os.path.join(folder, name)
-                mode = os.lstat(path).st_mode
-                if not stat.S_ISDIR(mode):
-                    (files if stat.S_ISREG(mode) else others).append(shown(path))
-    return sorted(files, key=os.fsencode), sorted(others, key=os.fsencode), errors
-
-
-def data_of(runs, name):
-    """The bytes of a file, or the error with which it is opened."""
-    try:
-        with open(os.path.join(runs.folder, name), "rb") as file:
-            return file.read()
-    except OSError as it:
-        return it.errno
-
 
 def said_by(err):
     """The messages of the program: for each the name, as a shell reads it, and what is said of it; if that is of no
@@ -95,17 +65,17 @@ def words_of(tops):
 
 def wanted_of(runs, tops, names=(), shape=(), data=b"", family="b", bits=0, is_sealed=False, **given):
     """What a run over these folders and files has to print, its messages, and its status."""
-    files, others, errors = below(runs, tops)
+    files, others, errors = below(runs.folder, tops)
     said, out = [*((name, OTHER) for name in others), *errors], b""
     status = int(bool(errors))
     for name in (*names, *files):
-        found = data if name == "-" else data_of(runs, name)
+        found = data if name == "-" else data_of(runs.folder, name)
         if isinstance(found, int):
             said.append((name, reason(found)))
             status = 1
         else:
             out += shown_of(name, found, shape, family, bits or longest(family), given)
-    return out + seal_of(out) if is_sealed and not status else out, said, status
+    return out + seal(out, KEY) if is_sealed and not status else out, said, status
 
 
 def agree(runs, tops, names=(), words=(), data=b"", **more):
@@ -119,17 +89,11 @@ def agree_sealed(runs, tops, names=()):
     agree(runs, tops, names, SEAL, shape=["--tag"], is_sealed=True, key=KEY)
 
 
-def seal_of(text):
-    """The line that seals these bytes."""
-    mac = hashlib.blake2b(text, key=KEY, person=b"b2sum sealed").hexdigest()
-    return f"# sealed {text.count(10)} {mac}\n".encode()
-
-
 def list_of(files, family="b"):
     """The sealed list of files by their names."""
     text = os.fsencode("".join(line(name, data, longest(family), family, tag=True, key=KEY)
                                for name, data in files.items()))
-    return text + seal_of(text)
+    return text + seal(text, KEY)
 
 
 def remove(path):
@@ -222,7 +186,7 @@ def test_others(runs):
         agree(runs, tops, ["b", "tree/file"], shape=["--tag"])
         agree(runs, tops, words=["--progress"])
         agree_sealed(runs, tops)
-    _, others, _ = below(runs, ["tree"])
+    _, others, _ = below(runs.folder, ["tree"])
     got = runs.run(["--recursive", "tree", "b"], stderr=subprocess.STDOUT)[0].splitlines()
     runs.holds("messages before all lines", [text.startswith(b"b2sum: ") for text in got] ==
                [True] * len(others) + [False] * 4, got)
@@ -260,7 +224,7 @@ def test_errors(runs):
                "x/" * 2050: errno.ENAMETOOLONG, "": errno.ENOENT, "-": errno.ENOENT}
     for (top, error), words in itertools.product(reasons.items(), ([], SEAL)):
         given = {"tag": True, "key": KEY} if words else {}
-        lines = [os.fsencode(line(name, data_of(runs, name), **given)) for name in ("b", "tree/d/m")]
+        lines = [os.fsencode(line(name, data_of(runs.folder, name), **given)) for name in ("b", "tree/d/m")]
         for names, tops in ((["b"], [top, "tree/d"]), (["b"], ["tree/d", top]), ([], [top])):
             got = runs.run([*words, *names, *words_of(tops)], b"input", timeout=20)
             wanted = b"".join(lines) if names else b"", [(top, reason(error))], 1
@@ -342,7 +306,7 @@ def test_many(runs):
     make_tree(runs, [f"{number * 7919 % 20000}" for number in range(20000)])
     agree(runs, ["tree"])
     agree_sealed(runs, ["tree/"])
-    files = {name: data_of(runs, name) for name in below(runs, ["tree"])[0]}
+    files = {name: data_of(runs.folder, name) for name in below(runs.folder, ["tree"])[0]}
     runs.write("sums", list_of(files))
     check(runs, ["tree"], files)
     del files["tree/77"]
@@ -354,16 +318,15 @@ def test_many(runs):
 
 def check(runs, tops, listed, words=(), family="b"):
     """A check of a sealed list of files by their names, with these folders, is as it has to be."""
-    files, others, errors = below(runs, tops)
+    files, others, errors = below(runs.folder, tops)
     outcomes, said = [], []
     for name, data in listed.items():
-        found = data_of(runs, name)
+        found = data_of(runs.folder, name)
         outcomes.append("FAILED open or read" if isinstance(found, int) else "OK" if found == data else "FAILED")
         said += [(name, reason(found))] if isinstance(found, int) else []
-    for outcome, one, many in (("FAILED open or read", "listed file", "could not be read"),
-                               ("FAILED", "computed checksum", "did NOT match")):
-        if (count := outcomes.count(outcome)) and "--status" not in words:
-            said.append(("", f"{count} {one}{'s' * (count > 1)} {many}"))
+    counts = collections.Counter({"unread": outcomes.count("FAILED open or read"),
+                                  "different": outcomes.count("FAILED")})
+    said += [("", it.removeprefix("WARNING: ")) for it in warnings(counts) if "--status" not in words]
     unlisted = sorted({*files, *others} - {*listed}, key=os.fsencode)
     own, said = len(said), [*said, *errors, *((name, UNLISTED) for name in unlisted if "--status" not in words)]
     status = int(outcomes.count("OK") < len(listed) or bool(errors or unlisted))
@@ -380,8 +343,8 @@ def test_checked(runs):
     """After a list, what is in the folders and not in it is reported, and fails the check."""
     runs.write("key", KEY)
     make_tree(runs, [*PARTS, "d/m", "d/e/m", "d/\n"], ("empty",))
-    names = below(runs, ["tree"])[0]
-    listed = {name: data_of(runs, name) for name in names}
+    names = below(runs.folder, ["tree"])[0]
+    listed = {name: data_of(runs.folder, name) for name in names}
     for words in ([], ["--quiet"], ["--status"], ["--strict"], ["-w"], ["--ignore-missing"], ["--progress"]):
         check(runs, ["tree"], listed, words)
         check(runs, ["tree"], dict(list(listed.items())[1:]), words)
@@ -390,7 +353,7 @@ def test_checked(runs):
         check(runs, ["tree"], {name: listed[name]})
     for tops in (["./tree"], ["tree/"], ["tree//"], ["tree/d", "tree/empty"], ["tree/d/", "tree/empty"], ["tree/d/.."]):
         check(runs, tops, listed)  # other names of the same files are not in the list
-        check(runs, tops, {name: data_of(runs, name) for name in below(runs, tops)[0]})
+        check(runs, tops, {name: data_of(runs.folder, name) for name in below(runs.folder, tops)[0]})
     check(runs, ["tree"], {name: listed[name] for name in reversed(names)})
     check(runs, ["tree"], listed, ["-a", "blake2s"], "s")
     check(runs, ["tree/d"], {"tree/d/m": b"x", **listed, "missing": b"", "tree/none": b""})
@@ -508,7 +471,7 @@ def test_changes(runs):
             make_tree(runs, ("m", "d/x"))
             got = run_with_stop(runs, [*words, "--recursive", "tree"], "openat", opens.index(event) + 1, change)
             out = os.fsencode("".join(line(name, data, **given) for name, data in files.items()))
-            out += seal_of(out) if words and not said else b""
+            out += seal(out, KEY) if words and not said else b""
             runs.holds([*words, event, *files, said], agrees(got, out, said, int(bool(said))), (got, out, said))
     for at in (1, 2, 700, 1500, 2000):
         change_many(runs, at)
@@ -538,7 +501,7 @@ def test_faults(runs):
     sealed. A file is opened and read again that fails before its turn."""
     runs.write("key", KEY)
     make_tree(runs, [f"n{number}" for number in range(12)] + ["d/m", "d/e/m"])
-    runs.write("sums", list_of({name: data_of(runs, name) for name in below(runs, ["tree"])[0]}))
+    runs.write("sums", list_of({name: data_of(runs.folder, name) for name in below(runs.folder, ["tree"])[0]}))
     calls = {"readdir": errno.EIO, "openat": errno.EMFILE, "readv": errno.EIO, "malloc": errno.ENOMEM,
              "realloc": errno.ENOMEM, "write": errno.ENOSPC}
     for words, (call, error) in itertools.product(
@@ -592,9 +555,9 @@ def random_tree(runs, rng):
 
 def random_check(runs, rng, tops):
     """A check of a list of most files, of which some have changed, and one may be missing."""
-    files = below(runs, tops)[0]
-    listed = {name: data_of(runs, name) if rng.random() < 0.9 else b"other" for name in rng.sample(files, len(files))
-              if rng.random() < 0.9}
+    files = below(runs.folder, tops)[0]
+    listed = {name: data_of(runs.folder, name) if rng.random() < 0.9 else b"other"
+              for name in rng.sample(files, len(files)) if rng.random() < 0.9}
     if not listed or rng.random() < 0.2:
         listed["missing"] = b""
     check(runs, tops, listed, rng.choice(([], ["--quiet"], ["--status"])))

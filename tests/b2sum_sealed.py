@@ -8,7 +8,6 @@ Only the first program is tested: the others are the same program, with older bu
 usage: tests/b2sum_sealed.py [PROGRAM..]
 """
 import errno
-import hashlib
 import itertools
 import os
 import random
@@ -17,11 +16,13 @@ import shutil
 import subprocess
 import threading
 
+from b2sum_model import seal
 from b2sum_support import FILES, check_line, line, lines, run_tests
 
 HUGE = bool(os.environ.get("VULFSJOR_TEST_HUGE"))
 MOST = 1 << 28
 KEYS = {"key": bytes(range(100, 132)), "key64": random.Random(64).randbytes(64), "key1": b"k"}
+KEY = KEYS["key"]
 BROKEN = "{}: the seal does not hold"
 NO_LINE = "{}: no properly formatted checksum lines found"
 WITH_KEY = ["--key-file", "key"]
@@ -46,13 +47,7 @@ WRONG = {
 }
 
 
-def seal(text, key=KEYS["key"], salt=b"", person=b"b2sum sealed"):
-    """The line that seals these bytes."""
-    mac = hashlib.blake2b(text, key=key, salt=salt, person=person).hexdigest()
-    return f"# sealed {text.count(10)} {mac}\n".encode()
-
-
-def sealed(names=FILES, key=KEYS["key"], salt=b"", **more):
+def sealed(names=FILES, key=KEY, salt=b"", **more):
     """The list of these files, sealed."""
     some = {"key": key, **({"salt": salt} if salt else {}), **more}
     text = "".join(line(name, FILES[name], tag=True, **some) for name in names)
@@ -88,11 +83,11 @@ def test_printed(runs):
         if salt:
             runs.wants(["-c", "--sealed", "-a", f"blake2{family}", "--key-file", name, "SUMS"], "",
                        BROKEN.format("SUMS"), 1)
-    text = os.fsencode(line("-", b"abc", tag=True, key=KEYS["key"]))
-    runs.wants(["--seal", *WITH_KEY], text + seal(text), data=b"abc")
+    text = os.fsencode(line("-", b"abc", tag=True, key=KEY))
+    runs.wants(["--seal", *WITH_KEY], text + seal(text, KEY), data=b"abc")
     for more in (["--tag"], ["-b"], ["--binary", "--tag"]):
         runs.wants(["--seal", *more, *WITH_KEY, "b"], sealed(["b"]))
-    lacking = os.fsencode(line("b", b"abc", tag=True, key=KEYS["key"]))
+    lacking = os.fsencode(line("b", b"abc", tag=True, key=KEY))
     runs.wants(["--seal", *WITH_KEY, "none", "b"], lacking, f"none: {os.strerror(errno.ENOENT)}", 1)
     runs.wants(["--seal", *WITH_KEY, "--", "b", "b"], sealed(["b", "b"]))
     runs.ends("lists that are printed and sealed")
@@ -112,8 +107,8 @@ def test_checked(runs):
     runs.wants([*CHECK, "--quiet", "SUMS"], "")
     runs.wants([*CHECK, "--status", "SUMS"], "")
     runs.wants([*CHECK, "--status", "BAD"], "", BROKEN.format("BAD"), 1)
-    runs.wants(["-c", "--sealed", "--key-file", "-", "ONE"], "b: OK\n", data=KEYS["key"])
-    runs.write("SUMS", seal(b""))
+    runs.wants(["-c", "--sealed", "--key-file", "-", "ONE"], "b: OK\n", data=KEY)
+    runs.write("SUMS", seal(b"", KEY))
     runs.wants([*CHECK, "SUMS"], "", NO_LINE.format("SUMS"), 1)
     runs.write("SUMS", sealed(["a", "b"]))
     runs.write("b", b"abd")
@@ -122,8 +117,8 @@ def test_checked(runs):
     runs.wants([*CHECK, "SUMS"], "a: OK\nb: FAILED open or read\n", f"b: {os.strerror(errno.ENOENT)}\n"
                "WARNING: 1 listed file could not be read", 1)
     runs.wants([*CHECK, "--ignore-missing", "SUMS"], "a: OK\n")
-    text = sealed(["a"])[:-len(seal(b""))] + b"nonsense\n"
-    runs.write("SUMS", text + seal(text))
+    text = sealed(["a"])[:-len(seal(b"", KEY))] + b"nonsense\n"
+    runs.write("SUMS", text + seal(text, KEY))
     runs.wants([*CHECK, "SUMS"], "a: OK\n", "WARNING: 1 line is improperly formatted", 1)
     for name, reason in (("none", errno.ENOENT), (".", errno.EISDIR)):
         runs.wants([*CHECK, name], "", f"{name}: {os.strerror(reason)}", 1)
@@ -171,8 +166,9 @@ def test_changed(runs):
     refuses(runs, b"\n")
     refuses(runs, b"".join(above))
     listed = b"".join(above)
-    for other in (seal(listed, KEYS["key64"]), seal(listed, salt=b"salt"), seal(listed, person=b""),
-                  seal(listed, person=b"b2sum"), seal(listed, key=b""), seal(listed[:-1]), seal(listed + b"\n")):
+    for other in (seal(listed, KEYS["key64"]), seal(listed, KEY, salt=b"salt"), seal(listed, KEY, person=b""),
+                  seal(listed, KEY, person=b"b2sum"), seal(listed, b""), seal(listed[:-1], KEY),
+                  seal(listed + b"\n", KEY)):
         refuses(runs, listed + other)
     refuses(runs, text, words=["-c", "--sealed", "--key-file", "key64"])
     refuses(runs, text, words=[*CHECK, "--salt", "01"])
@@ -206,9 +202,9 @@ def test_forged(runs):
     runs.write("prod.conf", b"debug=0\n")
     runs.write("test.conf", b"debug=1\n")
     good = runs.run(["--seal", *WITH_KEY, "--", "prod.conf", "test.conf"])[0]
-    entry = line("test.conf", b"debug=1\n", tag=True, key=KEYS["key"])
+    entry = line("test.conf", b"debug=1\n", tag=True, key=KEY)
     evil = entry.replace("test.conf", "prod.conf").encode()
-    runs.holds("the list", good.endswith(seal(b"".join(good.splitlines(True)[:-1]))), good)
+    runs.holds("the list", good.endswith(seal(b"".join(good.splitlines(True)[:-1]), KEY)), good)
     runs.write("prod.conf", b"debug=1\n")  # what the attacker puts there, with the line of the other file
     os.mkfifo(runs.path("PIPE"))
 
@@ -224,7 +220,7 @@ def test_forged(runs):
         feeder.join(10)
     lines_of_good = good.splitlines(True)
     for forged in (evil, evil + lines_of_good[-1], lines_of_good[1] + lines_of_good[2],
-                   evil + seal(evil, key=b""), evil + seal(evil, key=KEYS["key1"])):
+                   evil + seal(evil, b""), evil + seal(evil, KEYS["key1"])):
         refuses(runs, forged)
     runs.ends("a list that is forged without the key")
 
@@ -237,7 +233,7 @@ def test_others(runs):
     shown = "".join(map(check_line, FILES))
     runs.wants(["-c", *WITH_KEY, "SUMS"], shown)
     plain = os.fsencode(lines(tag=True))
-    runs.write("PLAIN", plain + seal(plain))
+    runs.write("PLAIN", plain + seal(plain, KEY))
     runs.wants(["-c", "--strict", "PLAIN"], shown)
     if os.path.exists("/usr/bin/b2sum"):
         words = {"executable": "/usr/bin/b2sum", "cwd": runs.folder, "capture_output": True, "env": {"LC_ALL": "C"}}
