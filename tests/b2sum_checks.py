@@ -216,7 +216,7 @@ def random_words(rng, runs, files):
         words += [it for it in ("--strict", "--ignore-missing") if chance(rng, 0.15)]
         words += ["--show-digests"] * chance(rng, 0.05 if "key" in plan.given else 0.3)
         if is_sealed and chance(rng, 0.5):
-            tops = rng.choice((["d"], ["d/e"], ["d/", "none"], ["d/e", "none"], ["d/e/empty"], ["d/e/empty", "a"]))
+            tops = rng.choice((["d"], ["d/e"], ["d/", "none"], ["d/e", "none"], ["d", "d/e"], ["d/e/empty", "a"]))
             words += [it for top in tops for it in option(rng, "recursive", top)]
         make = random_sealed if is_sealed else random_list
         names = rng.choice((["SUMS"], ["SUMS"], ["S 2", "SUMS"], ["-"], [], ["none", "SUMS"], ["SUMS", "d"],

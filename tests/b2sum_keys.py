@@ -385,7 +385,7 @@ def is_right(got, whole, good, call):
     whose closing fails was read, and the run fails at its end."""
     printed = got[0].splitlines(True)
     return got[2] == 1 and {*printed} <= good and (
-        call in ("close", "write") or not any(text.startswith(b"# sealed") for text in printed)) and (
+        call == "close" or not any(text.startswith(b"# sealed") for text in printed)) and (
         got[1] != b"" or call in ("close", "write"))
 
 
