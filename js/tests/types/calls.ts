@@ -32,7 +32,11 @@ const all = async (file: Blob, signal: AbortSignal): Promise<Uint8Array[]> => [
   await treeRootStream(file, { leafLength: 65536, threads: 4, onFallback: (reason) => { throw reason; } }),
   treeRootOfLeaves(treeLeaves(digest, { leafLength: 5, first: 0n, ends: true }), { leafLength: 5 }),
 ];
-load().then(() => all);
+const later = (file: Blob): Promise<Uint8Array>[] => [
+  blake2bStream(file), blake2sStream(file), blake2bpStream(file), blake2spStream(file),
+  treeRootStream(file, { leafLength: 5 }),
+];
+load().then(() => [all, later]);
 
 // outputs of any length
 const output = new Blake2xb({ outputLength: 9, key: digest }).update(digest).copy();
@@ -86,6 +90,8 @@ new Blake2xb({ key: config.key });
 new Blake2xs({ key: no });
 blake2bMany([digest], { key: config.key });
 blake2sMany([digest], { key: no });
+blake2bMany([digest], { tree: { depth: 2 } }); // nodes of trees are hashed one by one
+blake2sMany([digest], { tree: { depth: 2 } });
 blake2bStream([digest], { key: config.key });
 deriveKey(config.key, digest, 32);
 deriveKey(digest, digest); // without a length
