@@ -72,7 +72,8 @@ impl Blake2sContext {
     /// Returns the number of bytes counted since the last start, including those that are
     /// pending.
     pub(crate) fn counted(&self) -> u64
-        ensures { result ≡ self.now.core.count + length self.now.buffer }
+        ensures count { result ≡ self.now.core.count + length self.now.buffer }
+        ensures one_block_left { self.now.core.count ≡ 64 * (chunk_count 64 result - 1) }
     {
         self.core.counted() + self.buffer.get_pos() as u64
     }

@@ -58,7 +58,9 @@ impl<const N: usize> OutputSizeUser for Blake2b<N> {
 impl<const N: usize> HashMarker for Blake2b<N> {}
 
 impl<const N: usize> Update for Blake2b<N> {
-    ghost use Rattle.blake2.specs.Hashers.{blake2b_meaning};
+    ghost use Rattle.std.specs.Prelude.{◌-◌, ◌*◌};
+    ghost use Rattle.blake2.specs.Hashers.{blake2b_meaning, blake2b_state};
+    ghost use Rattle.blake2_digest.specs.Blocks.{chunk_count};
 
     ghost meaning = { blake2b_meaning N };
 
@@ -66,7 +68,13 @@ impl<const N: usize> Update for Blake2b<N> {
         self.context.update(input);
     }
 
-    fn counted(&self) -> u64 {
+    /// Returns the number of bytes counted since the last start, including those that are
+    /// pending. All of their blocks but one are compressed.
+    fn counted(&self) -> u64
+        ensures count { result ≡ (blake2b_meaning N).count self.now }
+        ensures one_block_left { (blake2b_state self.now).core.count
+            ≡ 128 * (chunk_count 128 result - 1) }
+    {
         self.context.counted()
     }
 }

@@ -59,7 +59,9 @@ impl<const N: usize> OutputSizeUser for Blake2s<N> {
 impl<const N: usize> HashMarker for Blake2s<N> {}
 
 impl<const N: usize> Update for Blake2s<N> {
-    ghost use Rattle.blake2.specs.Hashers.{blake2s_meaning};
+    ghost use Rattle.std.specs.Prelude.{◌-◌, ◌*◌};
+    ghost use Rattle.blake2.specs.Hashers.{blake2s_meaning, blake2s_state};
+    ghost use Rattle.blake2_digest.specs.Blocks.{chunk_count};
 
     ghost meaning = { blake2s_meaning N };
 
@@ -67,7 +69,13 @@ impl<const N: usize> Update for Blake2s<N> {
         self.context.update(input);
     }
 
-    fn counted(&self) -> u64 {
+    /// Returns the number of bytes counted since the last start, including those that are
+    /// pending. All of their blocks but one are compressed.
+    fn counted(&self) -> u64
+        ensures count { result ≡ (blake2s_meaning N).count self.now }
+        ensures one_block_left { (blake2s_state self.now).core.count
+            ≡ 64 * (chunk_count 64 result - 1) }
+    {
         self.context.counted()
     }
 }

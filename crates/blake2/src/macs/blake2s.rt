@@ -140,7 +140,9 @@ impl<const N: usize> KeyInit<32> for Blake2sMac<N> {
 }
 
 impl<const N: usize> Update for Blake2sMac<N> {
-    ghost use Rattle.blake2.specs.Hashers.{blake2s_mac_meaning};
+    ghost use Rattle.std.specs.Prelude.{◌-◌, ◌*◌};
+    ghost use Rattle.blake2.specs.Hashers.{blake2s_mac_meaning, blake2s_mac_state};
+    ghost use Rattle.blake2_digest.specs.Blocks.{chunk_count};
 
     ghost meaning = { blake2s_mac_meaning N };
 
@@ -148,7 +150,13 @@ impl<const N: usize> Update for Blake2sMac<N> {
         self.context.update(input);
     }
 
-    fn counted(&self) -> u64 {
+    /// Returns the number of bytes counted since the last start, including those that are
+    /// pending. All of their blocks but one are compressed.
+    fn counted(&self) -> u64
+        ensures count { result ≡ (blake2s_mac_meaning N).count self.now }
+        ensures one_block_left { (blake2s_mac_state self.now).core.count
+            ≡ 64 * (chunk_count 64 result - 1) }
+    {
         self.context.counted()
     }
 }
