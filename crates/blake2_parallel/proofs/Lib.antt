@@ -1,5 +1,8 @@
 pub mod DealtStripes
 pub mod LongerRuns
 pub mod ListsByElement
-pub mod LeafContracts
+pub mod LeafSteps
+pub mod LeafEnds
+pub mod LeafStarts
+pub mod RootDigests
 pub mod StateLaws

@@ -7,7 +7,8 @@ use Rattle.blake2_parallel.specs.LeafStates.{Leaves, Took, root_future, total}
 use Rattle.blake2_parallel.specs.Parallel.{Settings, digests, parallel_key_count, leaves}
 use Rattle.blake2_parallel.specs.Parallel.{parameters_at}
 use Rattle.blake2_parallel.specs.States.{Held, future, parallel_meaning_by, started}
-use Rattle.blake2_parallel.proofs.LeafContracts.{AtStart, root-same, root-start, root-took}
+use Rattle.blake2_parallel.proofs.LeafStarts.{AtStart}
+use Rattle.blake2_parallel.proofs.RootDigests.{root-same, root-start, root-took}
 
 -- The leaves took an input, and the rest of the state is the same.
 pub Updated_took : {S : Type 0} (f : Family) (held : S → Held) (old new : S) (x : List ℕ)

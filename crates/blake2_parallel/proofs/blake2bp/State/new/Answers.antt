@@ -4,7 +4,7 @@ use Rattle.blake2_simd.specs.Lanes.{in_lane}
 use Rattle.blake2_compress.specs.Hash.{start}
 use Rattle.blake2_parallel.specs.Blake2bp.{held_by}
 use Rattle.blake2_parallel.specs.Parallel.{Settings, settings}
-use Rattle.blake2_parallel.proofs.LeafContracts.{at_start, at_start-same}
+use Rattle.blake2_parallel.proofs.LeafStarts.{at_start, at_start-same}
 use Rattle.blake2_parallel.proofs.StateLaws.{Fresh_start}
 use Rattle.blake2_parallel.proofs.blake2bp.State.new.Goals as goal
 

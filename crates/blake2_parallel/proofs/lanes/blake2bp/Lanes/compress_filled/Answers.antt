@@ -3,7 +3,7 @@ use Rattle.std.proofs.lemmas.List.{take-append-drop}
 use Rattle.blake2_simd.specs.Family.{blake2b}
 use Rattle.blake2_simd.specs.Lanes.{in_lane}
 use Rattle.blake2_parallel.specs.Blake2bp.{leaves_of}
-use Rattle.blake2_parallel.proofs.LeafContracts.{Took-kept, WentOn-kept, WentOn-then}
+use Rattle.blake2_parallel.proofs.LeafSteps.{Took-kept, WentOn-kept, WentOn-then}
 use Rattle.blake2_parallel.proofs.lanes.blake2bp.Lanes.compress_filled.Goals as goal
 
 pub returns-clause-went_on : goal.returns-clause-went_on

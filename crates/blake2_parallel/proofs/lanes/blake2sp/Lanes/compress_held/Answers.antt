@@ -4,7 +4,7 @@ use Rattle.std.proofs.Common.{length-append}
 use Rattle.std.proofs.lemmas.List.{length-take-le}
 use Rattle.blake2_simd.specs.Family.{blake2s}
 use Rattle.blake2_parallel.specs.LeafStates.{leaf_chain}
-use Rattle.blake2_parallel.proofs.LeafContracts.{WentOn-stripes, held-rest}
+use Rattle.blake2_parallel.proofs.LeafSteps.{WentOn-stripes, held-rest}
 use Rattle.blake2_parallel.proofs.LongerRuns.{leaf_chain-held}
 use Rattle.blake2_parallel.proofs.lanes.blake2sp.Lanes.compress_held.Goals as goal
 

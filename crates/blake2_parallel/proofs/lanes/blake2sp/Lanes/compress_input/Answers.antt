@@ -5,7 +5,7 @@ use Rattle.std.proofs.lemmas.List.{take_rest}
 use Rattle.blake2_simd.specs.Family.{blake2s}
 use Rattle.blake2_simd.specs.Lanes.{in_lane}
 use Rattle.blake2_parallel.specs.LeafStates.{Leaves, leaf_chain}
-use Rattle.blake2_parallel.proofs.LeafContracts.{WentOn-equal, WentOn-stripes, WentOn-then}
+use Rattle.blake2_parallel.proofs.LeafSteps.{WentOn-equal, WentOn-stripes, WentOn-then}
 use Rattle.blake2_parallel.proofs.lanes.blake2sp.Lanes.compress_input.Goals as goal
 
 pub returns-clause-went_on : goal.returns-clause-went_on

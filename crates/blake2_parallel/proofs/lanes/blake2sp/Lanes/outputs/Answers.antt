@@ -8,7 +8,7 @@ use Rattle.blake2_compress.specs.Hash.{bytes_of, compress as F, final, padded}
 use Rattle.blake2_compress.specs.MessagePieces.{piece}
 use Rattle.blake2_parallel.specs.Blake2sp.{leaves_of}
 use Rattle.blake2_parallel.specs.LeafStates.{Leaves, end_flags, leaf_future}
-use Rattle.blake2_parallel.proofs.LeafContracts.{cut_at, leaf_end}
+use Rattle.blake2_parallel.proofs.LeafEnds.{cut_at, leaf_end}
 use Rattle.blake2_parallel.proofs.lanes.blake2sp.Lanes.outputs.Goals as goal
 
 -- Leaf m's output, from its chaining words and those of all leaves before this end.

@@ -2,7 +2,7 @@
 use Rattle.std.proofs.Common.{ap}
 use Rattle.blake2_simd.specs.Family.{blake2s}
 use Rattle.blake2_simd.specs.Lanes.{in_lane}
-use Rattle.blake2_parallel.proofs.LeafContracts.{Took-kept, Took-rest, WentOn-same, WentOn-then}
+use Rattle.blake2_parallel.proofs.LeafSteps.{Took-kept, Took-rest, WentOn-same, WentOn-then}
 use Rattle.blake2_parallel.proofs.lanes.blake2sp.Lanes.update.Goals as goal
 
 pub loop-self-init : goal.loop-self-init

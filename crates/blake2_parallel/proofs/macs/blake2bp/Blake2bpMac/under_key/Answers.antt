@@ -1,6 +1,6 @@
 use Rattle.blake2_simd.specs.Family.{blake2b}
 use Rattle.blake2_parallel.specs.Blake2bp.{held_by}
-use Rattle.blake2_parallel.proofs.LeafContracts.{key_count-some}
+use Rattle.blake2_parallel.proofs.LeafStarts.{key_count-some}
 use Rattle.blake2_parallel.proofs.StateLaws.{Fresh_by}
 use Rattle.blake2_parallel.proofs.macs.blake2bp.Blake2bpMac.under_key.Goals as goal
 

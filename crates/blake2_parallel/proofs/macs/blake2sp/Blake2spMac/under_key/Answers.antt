@@ -1,7 +1,7 @@
 -- Made by tools/twins.py from proofs/macs/blake2bp/Blake2bpMac/under_key/Answers.antt.
 use Rattle.blake2_simd.specs.Family.{blake2s}
 use Rattle.blake2_parallel.specs.Blake2sp.{held_by}
-use Rattle.blake2_parallel.proofs.LeafContracts.{key_count-some}
+use Rattle.blake2_parallel.proofs.LeafStarts.{key_count-some}
 use Rattle.blake2_parallel.proofs.StateLaws.{Fresh_by}
 use Rattle.blake2_parallel.proofs.macs.blake2sp.Blake2spMac.under_key.Goals as goal
 
