@@ -100,7 +100,7 @@ def of_sums():
            one[3], small[3])
     if many:
         others = [row for row in rows if row[1] == "`b3sum`, 1 thread" and row[0] in [it[0] for it in many]]
-        yield ("In processor time, `b2sum` is {} times as fast over 2,000 files of 300 kB, and {} times over those of "
+        yield ("In processor time, `b2sum` is {} times as fast over 2,000 files of 300 kB, and {} times over "
                "/usr/include and /usr/share/doc; `b3sum` with one thread is {} and {} times as fast",
                *(row[5] for row in many + others))
 
