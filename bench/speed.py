@@ -53,7 +53,7 @@ NEWEST = subprocess.run([os.path.join(TOP, "tests", "processor.sh")], stdout=sub
                         check=True).stdout.strip()  # of the builds that this processor runs
 CPUS = ["x86-64-v2", "x86-64-v3", "x86-64-v4"]
 CPUS = CPUS[:CPUS.index(NEWEST) + 1] if NEWEST in CPUS else []  # and those to time
-KERNEL_BYTES = 1 << 20
+IN_MEMORY_BYTES = 1 << 20
 SHORT_BYTES = (0, 1, 64, 65, 96, 127, 128, 200, 1024)
 SEVERAL_BYTES = (64, 1024, 4096)
 PARALLEL_BYTES = (0, 1024, 4096, 1 << 16, 1 << 20)
@@ -429,7 +429,7 @@ class Memory:
         wanted = hashlib.new(kind.algorithm, message[:length]).digest()
         loops = {name: checked_loop(name, found[kind.word], message, length, wanted)
                  for name, found in self.libraries.items()}
-        in_a_table = length in SHORT_BYTES or length == KERNEL_BYTES
+        in_a_table = length in SHORT_BYTES or length == IN_MEMORY_BYTES
         turns = self.turns * (MEMORY_TURNS if in_a_table else PLOT_TURNS)
         return median_of_places(turns, loops, self.beside(kind, message[:length]))
 
@@ -497,10 +497,10 @@ def long_table(options):
     return markdown_table(f"{options.mebibytes} MiB from a file", columns, ("peak memory, MiB", peaks))
 
 
-def kernel_table(memory):
+def in_memory_table(memory):
     """The table of libraries over one long message in memory."""
-    text = speed_text(KERNEL_BYTES)
-    columns = [Column(kind.title + ", GB/s", memory.best(kind, KERNEL_BYTES), text) for kind in TIMED]
+    text = speed_text(IN_MEMORY_BYTES)
+    columns = [Column(kind.title + ", GB/s", memory.best(kind, IN_MEMORY_BYTES), text) for kind in TIMED]
     return markdown_table("1 MiB in memory", columns)
 
 
@@ -679,7 +679,7 @@ def parts_of(options):
     if options.only in (None, "kernel", "short"):
         memory = Memory(options.turns, functions_in_memory(), through_python)
     if options.only in (None, "kernel"):
-        yield with_load(kernel_table(memory))
+        yield with_load(in_memory_table(memory))
     if options.only in (None, "short"):
         yield from (with_load(short_table(kind, memory)) for kind in TIMED)
     if options.only in (None, "several"):

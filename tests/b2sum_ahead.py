@@ -41,7 +41,7 @@ SIZES = sorted({0, 1, 3, 1000, *(size + more for size in (64, 128, 192, 256, 409
 
 # ---- What a run has to print, and when it may open files.
 
-def parts_of(names, files, data=b"", shape=(), family="b", bits=512, **given):
+def wanted_parts(names, files, data=b"", shape=(), family="b", bits=512, **given):
     """What is printed for each name: its line or, if the file is an error, its message, and whether it is a line.
     Standard input has these bytes once."""
     for name in names:
@@ -53,7 +53,7 @@ def parts_of(names, files, data=b"", shape=(), family="b", bits=512, **given):
             yield True, shown_of(name, found, shape, family, bits, given)
 
 
-def run_of(parts):
+def wanted_run(parts):
     """What is printed to both streams, and the status."""
     parts = list(parts)
     out, said = (b"".join(text for is_line, text in parts if is_line == wanted) for wanted in (True, False))
@@ -66,7 +66,7 @@ def manifest_of(names, files, bits=512, family="b", **given):
                                     **given) for name in names))
 
 
-def check_of(names, files, found):
+def wanted_check(names, files, found):
     """What is printed by a check of that manifest to both streams, and its status, if the files are what was found."""
     found = list(found)
     outcomes = ["FAILED open or read" if isinstance(it, int) else "OK" if it == files[name] else "FAILED"
@@ -87,12 +87,12 @@ def words_of(mode, names):
     return mode if "-c" in mode else [*mode, *names]
 
 
-def outcome_of(mode, names, files, found):
+def wanted_outcome(mode, names, files, found):
     """What such a run has to print and its status, if the files are what was found: of a check, by the manifest of what
     they should be."""
     if "-c" in mode:
-        return check_of(names, files, found)
-    return run_of(part for name, it in zip(names, found) for part in parts_of([name], {name: it}))
+        return wanted_check(names, files, found)
+    return wanted_run(part for name, it in zip(names, found) for part in wanted_parts([name], {name: it}))
 
 
 @functools.cache
@@ -107,8 +107,8 @@ def agree(runs, names, files, data=b"", words=(), shape=(), family="b", bits=0, 
     """Runs over these names, with standard input: as they have to be, in the order of all that is printed, with
     --progress, by coreutils, and as a check."""
     bits = bits or longest(family)
-    parts = list(parts_of(names, files, data, shape, family, bits, **given))
-    wanted = run_of(parts)
+    parts = list(wanted_parts(names, files, data, shape, family, bits, **given))
+    wanted = wanted_run(parts)
     options = ["-a", f"blake2{family}", *words, *shape, *(["-l", str(bits)] * (bits != longest(family)))]
     got = runs.run([*options, "--", *names], data, stderr=subprocess.STDOUT)
     runs.holds([*options, *names], got == (b"".join(text for _, text in parts), b"", wanted[2]), got)
@@ -122,7 +122,7 @@ def agree(runs, names, files, data=b"", words=(), shape=(), family="b", bits=0, 
     listed = [name for name in names if name not in ("-", "")]
     if listed:
         got = runs.run([*options[:2], *words, "-c"], manifest_of(listed, files, bits, family, **given))
-        runs.holds(["-c", *options, *listed], got == check_of(listed, files, map(files.get, listed)), got)
+        runs.holds(["-c", *options, *listed], got == wanted_check(listed, files, map(files.get, listed)), got)
 
 
 def group_of(names, sizes, room):
@@ -286,15 +286,15 @@ def test_pipes(runs):
         for commands, mode in itertools.product((in_turn, alone + "; wait"), MODES):
             with filled_pipe(runs, "filled", commands):
                 got = runs.run(words_of(mode, names), manifest_of(names, files), timeout=20)
-            runs.holds([*mode, *names], got == outcome_of(mode, names, files, map(files.get, names)), got)
+            runs.holds([*mode, *names], got == wanted_outcome(mode, names, files, map(files.get, names)), got)
     for at in range(9):  # which is filled when the line before it has come
         names = [*short[:at], "p", *short[at:]]
         process = subprocess.Popen([runs.program, *names], cwd=runs.folder, stdout=subprocess.PIPE)
-        before = b"".join(text for _, text in parts_of(short[:at], files))
+        before = b"".join(text for _, text in wanted_parts(short[:at], files))
         got = read_in_time(process.stdout, len(before))
         with filled_pipe(runs, "p", 'cat "of p"'):
             got += process.communicate(timeout=20)[0]
-        runs.holds(names, got.startswith(before) and got == run_of(parts_of(names, files))[0], got)
+        runs.holds(names, got.startswith(before) and got == wanted_run(wanted_parts(names, files))[0], got)
     runs.ends("pipes among files")
 
 
@@ -332,7 +332,7 @@ def test_outputs(runs):
                 text = file.read()
             wanted = {"stdout": b"", "stderr": b"", "own": before}
             for each in names:
-                (is_line, part), = parts_of([each], {**files, name: wanted["own"]})
+                (is_line, part), = wanted_parts([each], {**files, name: wanted["own"]})
                 stream = "stdout" if is_line else "stderr"
                 wanted["own" if stream in streams else stream] += part
             runs.holds([streams, *words, *names], (*got, text) == (
@@ -352,13 +352,14 @@ def test_checked_output(runs):
             text, found = before, []
             for each in names:
                 found.append(text if each == name else files[each])
-                text += check_of([each], listed, found[-1:])[0]
+                text += wanted_check([each], listed, found[-1:])[0]
             runs.write("own", before)
             with open(runs.path("own"), "r+b") as file:
                 file.seek(0, os.SEEK_END)
                 got = runs.run(["-c"], manifest_of(names, listed), stdout=file)
                 file.seek(0)
-                runs.holds(["-c", *names], (file.read(), *got[1:]) == (text, *check_of(names, listed, found)[1:]), got)
+                wanted = (text, *wanted_check(names, listed, found)[1:])
+                runs.holds(["-c", *names], (file.read(), *got[1:]) == wanted, got)
     runs.ends("outputs that are one of the files of a check")
 
 
@@ -367,7 +368,7 @@ def test_limits(runs):
     files = {**short_files(20), "missing": errno.ENOENT}
     write_all(runs, files)
     for closed in itertools.chain.from_iterable(itertools.combinations(range(3), count) for count in (1, 2, 3)):
-        out, said, status = run_of(parts_of(files, files))
+        out, said, status = wanted_run(wanted_parts(files, files))
         if 1 in closed:
             out, said, status = b"", f"b2sum: write error: {os.strerror(errno.EBADF)}\n".encode(), 1
         wanted = out, b"" if 2 in closed else said, status
@@ -377,7 +378,7 @@ def test_limits(runs):
     files = {**short_files(40), **{f"large{i}": bytes([i]) * MOST_BYTES for i in range(9)}}
     write_all(runs, files)
     names = list(files)
-    wanted = run_of(parts_of(names, files))
+    wanted = wanted_run(wanted_parts(names, files))
     for most in (4, 5, 6, 7, 8, 12):
         got = runs.run(names, preexec_fn=lambda most=most: resource.setrlimit(resource.RLIMIT_NOFILE, (most, most)))
         runs.holds(["descriptors", most], got == wanted, got)
@@ -399,7 +400,7 @@ def test_ends(runs):
             process = subprocess.Popen(["b2sum", *words_of(mode, names)], executable=runs.program, cwd=runs.folder,
                                        env=logged(runs), stdin=sums, stdout=subprocess.PIPE, stderr=subprocess.PIPE,
                                        restore_signals=not ignored)
-        first = outcome_of(mode, names[:1], files, [files["n0"]])[0]
+        first = wanted_outcome(mode, names[:1], files, [files["n0"]])[0]
         got = read_in_time(process.stdout, len(first))
         process.stdout.close()
         said = process.stderr.read()
@@ -471,7 +472,7 @@ def test_changes(runs):
             write_all(runs, files)
             got = run_with_stop(runs, words_of(mode, names), call, at, act)
             found = {**files, name: read_at(place, change, old, new)}
-            runs.holds([*mode, name, place, change], got == outcome_of(mode, names, files, found.values()), got)
+            runs.holds([*mode, name, place, change], got == wanted_outcome(mode, names, files, found.values()), got)
             os.remove(runs.path("log"))
     runs.ends("files that change while they are read")
 
@@ -491,7 +492,7 @@ def test_late_changes(runs):
             place = [i for i, event in enumerate(log) if event == "write"][at - 1]
             before = sum(event != "write" for event in log[:place])
             found = [(files if i < before else others)[name] for i, name in enumerate(order)]
-            runs.holds([*mode, *order, "write", at], got == outcome_of(mode, order, files, found), got)
+            runs.holds([*mode, *order, "write", at], got == wanted_outcome(mode, order, files, found), got)
             if "-c" not in mode:
                 sizes = {} if mode else {name: len(data) for name, data in files.items()}
                 runs.holds([*mode, *order, "log", at], log == list(events_of(order, sizes)), log)
@@ -523,7 +524,7 @@ def test_exchanged(runs):
             call, at = ("readv", 2 * number + 1 + ("-c" in mode)) if act == make_long else ("openat", number + 1)
             write_all(runs, files)
             got = run_with_stop(runs, words, call, at, act)
-            wanted = outcome_of(mode, names, files, {**files, name: found}.values())
+            wanted = wanted_outcome(mode, names, files, {**files, name: found}.values())
             runs.holds([*mode, name, act.__name__], got == wanted, got)
             os.remove(runs.path("log"))
             remove(path)
@@ -565,11 +566,11 @@ def test_faults(runs):
                 found[name] = b""
             elif fails and (last > at or not said):
                 found.update(dict.fromkeys(names[number:] if last > at else [name], error))
-            wanted = outcome_of(mode, names, files, found.values())
+            wanted = wanted_outcome(mode, names, files, found.values())
             runs.holds([*mode, call, at, last, error], got == wanted, got)
             is_early = f"ahead {name}" in events and not mode
             runs.holds([*mode, call, at, error, said], last > at or "-c" in mode or bool(said) == is_early)
-    whole, late = outcome_of([], names, files, files.values())[0], f"b2sum: close error: {os.strerror(errno.EIO)}\n"
+    whole, late = wanted_outcome([], names, files, files.values())[0], f"b2sum: close error: {os.strerror(errno.EIO)}\n"
     for at in range(1, len(names) + 1):
         got = run_with_fault(runs, names, b"", "close", at, at, errno.EIO)
         runs.holds(["close", at], got == (whole, late.encode(), 1), got)

@@ -170,7 +170,7 @@ def test_tags(runs):
     runs.ends("tags that say what a digest needs")
 
 
-def test_key_input(runs):
+def test_key_on_standard_input(runs):
     """A key on standard input, all of it; then no file can be standard input."""
     key = bytes(range(64))
     for some in (key, key[:1], b"key\n"):
@@ -496,5 +496,5 @@ def test_differences(runs):
 COMPUTING = (test_lengths, test_random, test_trees)
 TESTS = (*COMPUTING, test_parameters, test_tags, test_macs, test_hex_keys, test_digits_as_key, test_warned_lines,
          test_small_leaves, test_sealed_manifests, test_names, test_differences,
-         test_key_input)
+         test_key_on_standard_input)
 run_tests(TESTS, COMPUTING if HUGE else ())

@@ -380,7 +380,7 @@ def test_secrets(runs):
 
 # ---- Faults.
 
-def is_right(got, whole, good, call):
+def shows_failure(got, whole, good, call):
     """Whether a run in which a call failed shows it: no line is printed that may not be, and nothing is sealed. A file
     whose closing fails was read, and the run fails at its end."""
     printed = got[0].splitlines(True)
@@ -430,7 +430,7 @@ def fail_in_turn(runs, words, call, error, whole, good):
         for (got, said), is_one in zip(found, (True, False)):
             count += 1
             may_pass = not error or is_one and (said == "+" or call in ("malloc", "realloc", "close"))
-            runs.holds([*words, call, at, error, is_one, said], is_right(got, whole, good, call) or
+            runs.holds([*words, call, at, error, is_one, said], shows_failure(got, whole, good, call) or
                        may_pass and got == whole, got)
 
 

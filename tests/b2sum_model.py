@@ -366,7 +366,7 @@ class Check:
         data, self.input = self.input, b""
         return data
 
-    def take_key(self):
+    def reads_key(self):
         """Reads the key. Returns whether there is none or it is one."""
         command = self.command
         if command.key_file is None:
@@ -469,7 +469,7 @@ class Check:
 
     def run(self):
         """Does what the command line says. Returns whether all holds."""
-        if not self.take_key():
+        if not self.reads_key():
             return False
         if expected := self.command.last.get("expect"):
             expected = bytes.fromhex(expected)

@@ -271,7 +271,7 @@ def manifest_forms():
     yield from (b"", b"\n", b"\n\n", b"\r\n", half + b"  f", half + b"  f\n\n" + whole + b"  f", b"#\n" * 3, b"x\n" * 3)
 
 
-def form_runs(folder, by_windows, every):
+def manifest_form_runs(folder, by_windows, every):
     """Manifests of many forms, and lengths."""
     write(folder, b"f", b"abc")
     runs = [([b"-c", *more], text) for text in manifest_forms() for more in ([], [b"-w", b"--strict"])]
@@ -306,14 +306,14 @@ def main():
     if given.by:
         for program in given.program:
             compare([given.by, program], pool, options, option_runs, given.every)
-            compare([given.by, program], pool, forms, form_runs, True, given.every)
+            compare([given.by, program], pool, forms, manifest_form_runs, True, given.every)
         tap.finish()
     with programs(given.program) as built:
         for number, program in enumerate(built):
             if number == 0:
                 compare(program, pool, options, option_runs, 1 if HUGE else 4)
                 compare(program, pool, "command lines without standard input", closed_runs)
-                compare(program, pool, forms, form_runs, False, 1)
+                compare(program, pool, forms, manifest_form_runs, False, 1)
             runs = (5000 if HUGE else 200) // (10 if number else 1)
             said = list(filter(None, pool.map(lambda seed: random_run(program, seed), range(runs))))
             tap.result(not said, f"{program}: {runs} random command lines", f"{len(said)} differ\n" + "".join(said[:9]))

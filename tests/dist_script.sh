@@ -26,20 +26,20 @@ for crate in blake2_state b2_commands blake2_ffi b2 b2sum beside; do
 done
 cd "$repository" || exit 1
 # What a command prints that the script could run.
-of_script() {
+run_in_script() {
     sed '/^case \${1-},\$#/,$d' tools/dist.sh >tools/parts.sh
     echo "$1" >>tools/parts.sh
     bash tools/parts.sh
 }
-made=$(of_script 'printf "%s\n" "${files[@]}"')
-files="$made $(of_script 'printf "%s\n" "${by_hand[@]}"')"
-around=$(of_script 'printf "%s\n" "${around[@]}"')
+made=$(run_in_script 'printf "%s\n" "${files[@]}"')
+files="$made $(run_in_script 'printf "%s\n" "${by_hand[@]}"')"
+around=$(run_in_script 'printf "%s\n" "${around[@]}"')
 for file in $files $around; do
     mkdir -p "$(dirname "dist/$file")" && { [ -e "dist/$file" ] || echo "$file" >"dist/$file"; }
 done
 (
     echo "# kit: kit 1"
-    echo "# sources: $(of_script sources)"
+    echo "# sources: $(run_in_script sources)"
     cd dist && sha256sum $files $around
 ) >dist/MANIFEST
 
@@ -127,9 +127,9 @@ check "but these are" changed 1 dist/macros.h '$a\ ' check
 cp -R dist "$work/made"
 compares_files() {
     local file
-    of_script "are_those_of '$work/made'" || return 1
+    run_in_script "are_those_of '$work/made'" || return 1
     for file in $made; do
-        echo >>"$work/made/$file" && ! of_script "are_those_of '$work/made'" >"$work/shown" 2>&1 &&
+        echo >>"$work/made/$file" && ! run_in_script "are_those_of '$work/made'" >"$work/shown" 2>&1 &&
             grep -F "$file" "$work/shown" && cp "dist/$file" "$work/made/$file" || return 1
     done
 }
@@ -156,7 +156,7 @@ text='define internal i64 @"blake2_tree::nodes::Nodes::hash_next"(ptr noundef %0
 define internal void @"a::hash_next"() #0 {
   ret void
 }'
-hashing() { of_script "write_sharing_edit $1" >hashing.sed && sed -f hashing.sed <<<"$text"; }
+hashing() { run_in_script "write_sharing_edit $1" >hashing.sed && sed -f hashing.sed <<<"$text"; }
 check "the library exports what hashes" diff <(hashing blake2_ffi) - <<<"${text/internal /}"
 for crate in b2 b2sum; do
     check "$crate calls it, and has it not" diff <(hashing $crate) \

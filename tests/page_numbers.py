@@ -9,8 +9,9 @@ import sys
 
 from common import TOP, Unreadable, read
 from page_sources import (
-    LANGUAGES, Values, constant, definition, find, measured, newest, one_spaced, paths, power, size)
-from page_speeds import of_speeds
+    LANGUAGES, Values, captured, constant, definition, measured, one_spaced, paths, power, row_of_newest_processor,
+    size)
+from page_speeds import speed_rows
 
 # A space of a sentence, which may end a line of a comment, and a number with its unit.
 SPACE = r"\s+(?:(?://[/!]|//|\*|#) +)?"
@@ -71,7 +72,7 @@ def program_rows():
     for case, text in texts.items():
         if case != "WriteFailed":
             place = "line N: " if lines.get(case, "").startswith("Some") else ""
-            cause = find(r'"(.*)"', text, texts.name)
+            cause = captured(r'"(.*)"', text, texts.name)
             yield f"`b2: {place}{cause}` {{}}", status[case]
 
 
@@ -93,7 +94,7 @@ DEFINED = (
 )
 
 
-def of_specification():
+def specification_rows():
     found = [*family_rows(), *saved_rows(), *program_rows()]
     if len(found) != 38:
         raise Unreadable(f"tests/page_numbers.py reads {len(found)} rows in the definitions where it wants 38")
@@ -107,11 +108,11 @@ def of_specification():
 
 
 def longest_leaf():
-    return 2 ** int(find(r"nat_lt n \(2 \^ ([0-9]+)\)", definition("b2_commands", "ArgumentTasks", "some_leaf"),
-                         "some_leaf")) - 1
+    return 2 ** int(captured(r"nat_lt n \(2 \^ ([0-9]+)\)", definition("b2_commands", "ArgumentTasks", "some_leaf"),
+                             "some_leaf")) - 1
 
 
-def of_threads():
+def thread_rows():
     """The rows of trees by threads, of `b2sum` and of the digests of leaves."""
     least, part, most, leaves, of_part, threads = (constant("c/threads.c", name) for name in (
         "LEAST_BYTES", "PART_BYTES", "MOST_BUFFER_BYTES", "MOST_LEAVES", "PART_LEAVES", "MOST_THREADS"))
@@ -132,7 +133,8 @@ def of_threads():
     yield rust, "(less than {} for each)", size(least)
     yield file, "A regular file of at least {} is read and hashed by", size(2 * least)
     yield file, "Each thread has a buffer of at most {}", size(most)
-    digest = int(find(r"digest blake2b ([0-9]+) ", definition("blake2_tree", "TreeRoot", "leaf_digests"), "TreeRoot"))
+    digest = int(captured(r"digest blake2b ([0-9]+) ", definition("blake2_tree", "TreeRoot", "leaf_digests"),
+                          "TreeRoot"))
     for form, *values in (
             ("hashes each leaf to {} bytes", digest), ("hashes {} bytes for each leaf in one thread", digest),
             ("1/{} of the message at 64 KiB, 1/{} at 1 KiB", f"{(1 << 16) // digest:,}", (1 << 10) // digest),
@@ -141,7 +143,7 @@ def of_threads():
             ("the digests of the leaves, {} bytes for each", digest),
             ("For 1 GiB in leaves of 64 KiB you keep {} of digests", size((1 << 14) * digest))):
         yield "docs/LARGE.md", form, *values
-    short, middle, long = (float(cell) for cell in newest(measured("16 MiB"), "root")[::2])
+    short, middle, long = (float(cell) for cell in row_of_newest_processor(measured("16 MiB"), "root")[::2])
     yield ("docs/LARGE.md", "of 4 KiB the speed was {} percent lower, with leaves of 1 MiB {} percent",
            round(100 - 100 * short / middle), round(100 - 100 * long / middle))
     least = constant("c/b2sum.c", "LEAST_BYTES")
@@ -170,14 +172,14 @@ def of_threads():
         yield "docs/B2SUM.md", form, *values
 
 
-def of_families():
+def family_length_rows():
     """The rows of the lengths of the families."""
     (out_b, out_s), (key_b, key_s), (salt_b, salt_s), (block_b, block_s) = (
         family_numbers("blake2_simd", "Family", name)
         for name in ("output_bytes", "key_bytes", "salt_bytes", "block_bytes"))
-    peer = find(r'startswith\("b2sum \(GNU coreutils\) ([0-9.]+)', read("tests/compare_coreutils.py"),
-                "tests/compare_coreutils.py")
-    longest = int(find(r"PATH_ROOM = ([0-9]+)", read("c/b2sum.c"), "c/b2sum.c")) - 1
+    peer = captured(r'startswith\("b2sum \(GNU coreutils\) ([0-9.]+)', read("tests/compare_coreutils.py"),
+                    "tests/compare_coreutils.py")
+    longest = int(captured(r"PATH_ROOM = ([0-9]+)", read("c/b2sum.c"), "c/b2sum.c")) - 1
     for form, *values in (
             ("of GNU coreutils {} and has", peer),
             ("at most {} (BLAKE2s and BLAKE2sp: {}), the default", 8 * out_b, 8 * out_s),
@@ -201,7 +203,7 @@ def of_families():
         raise Unreadable("docs/GLOSSARY.md says that a stripe has one length in BLAKE2bp and BLAKE2sp")
     unknown = [re.fullmatch(r"2 \^ ([0-9]+) - 1", value)[1] for value in map(
         Values("blake2_xof", "Xof", "unknown_length").__getitem__, LANGUAGES)]
-    blocks = find(r"then 2 \^ ([0-9]+) \* output_bytes f", definition("blake2_xof", "Xof", "output_length"), "Xof")
+    blocks = captured(r"then 2 \^ ([0-9]+) \* output_bytes f", definition("blake2_xof", "Xof", "output_length"), "Xof")
     page = "docs/SPECIFICATION.md"
     yield page, "length has {} bits in BLAKE2Xb and {} in BLAKE2Xs", *unknown
     yield page, "n is 1 to {} ({}): the length of the output", *(f"2^{bits} - 2" for bits in unknown)
@@ -213,7 +215,7 @@ def of_families():
     yield "c/include/vulfsjor.h", "BLAKE2XS_UNKNOWN_LENGTH if the length is not known in advance: then {} can", whole_s
 
 
-def of_code():
+def constant_rows():
     cleared = [int(number) for path in paths("crates/blake2_ffi/src/**/*.rt")
                for number in re.findall(r"const \w+_BYTES: usize = ([0-9]+);", read(path))]
     yield "docs/WIPING.md", "rounded up: {} to {};", min(cleared), f"{max(cleared):,} bytes"
@@ -221,17 +223,17 @@ def of_code():
     yield ("docs/WIPING.md", "and {} of the stack below each call", size(constant("c/b2sum.c", "STACK_BYTES")))
     scrubbed = constant("crates/blake2_digest/src/wiping.rt", "SCRUBBED_BYTES")
     yield "docs/WIPING.md", "writes {} zeros over the stack", f"{scrubbed:,}"
-    depth = int(find(r"DEPTH = ([0-9]+) \* 1024,", read("tests/key_scan/scan.c"), "scan.c")) << 10
+    depth = int(captured(r"DEPTH = ([0-9]+) \* 1024,", read("tests/key_scan/scan.c"), "scan.c")) << 10
     yield "docs/WIPING.md", "Then it searches {} of the dead stack", size(depth)
     yield "docs/PORTABLE.md", "a volatile array of N + {},", f"{constant('tools/wasm_to_c.py', 'MARGIN'):,} bytes"
     yield "docs/PORTABLE.md", "A call uses at most {} of the stack", size(constant("tests/portable_stack.py", "MOST"))
     stack, room = constant("tests/machine/compression.py", "STACK"), constant("tests/machine/wasm.py", "ROOM")
     yield "docs/MACHINE.md", "and at most {} of its stack", size(stack)
     yield "docs/MACHINE.md", "the stack has {} left", size(room)
-    compiler = find(r'(?m)^rust-version = "(.*)"$', read("Cargo.toml"), "Cargo.toml")
-    cmake = find(r"cmake_minimum_required\(VERSION (.*)\)", read("c/CMakeLists.txt"), "c/CMakeLists.txt")
-    python = find(r'requires-python = ">=(.*)"', read("python/pyproject.toml"), "pyproject.toml")
-    node = find(r'"node": ">=([0-9.]+)"', read("js/package.json"), "package.json")
+    compiler = captured(r'(?m)^rust-version = "(.*)"$', read("Cargo.toml"), "Cargo.toml")
+    cmake = captured(r"cmake_minimum_required\(VERSION (.*)\)", read("c/CMakeLists.txt"), "c/CMakeLists.txt")
+    python = captured(r'requires-python = ">=(.*)"', read("python/pyproject.toml"), "pyproject.toml")
+    node = captured(r'"node": ">=([0-9.]+)"', read("js/package.json"), "package.json")
     yield "README.md", "**Rust** from {}", compiler
     yield "README.md", "**Python** from {}", python
     yield "README.md", "from node {},", node
@@ -248,11 +250,11 @@ def of_code():
 
 def rows():
     """The rows of the table: a page, a sentence of it with {} for numbers, and the numbers."""
-    yield from of_specification()
-    yield from of_threads()
-    yield from of_families()
-    yield from of_code()
-    yield from of_speeds()
+    yield from specification_rows()
+    yield from thread_rows()
+    yield from family_length_rows()
+    yield from constant_rows()
+    yield from speed_rows()
 
 
 def sentence_matches(page, form, text):

@@ -8,7 +8,7 @@ import subprocess
 import tempfile
 
 from common import TOP, Unreadable, read
-from page_sources import Values, constant, find, power
+from page_sources import Values, captured, constant, power
 
 PAGE = "docs/GLOSSARY.md"
 # Each column: the files in which its names are declared, and how.
@@ -74,7 +74,7 @@ def wrong_in_packages():
     for path, form, names, kinds in FORMS:
         for length, name in zip(LENGTHS[-len(names):], names):
             for kind in kinds:
-                number = find(form.format(small=kind, large=kind.upper(), name=name), read(path), path)
+                number = captured(form.format(small=kind, large=kind.upper(), name=name), read(path), path)
                 wanted = Values("blake2_simd", "Family", length)[kind[:7]]
                 if number != wanted:
                     yield f"{path}: {length} of {kind} is {number}, and the definition has {wanted}"
@@ -160,13 +160,14 @@ def check_systems():
     """The systems that the pages name for the library and the programs, with those that the scripts build for"""
     wanted = {name.split()[0].strip(",") for name, (target, *_) in PLATFORMS.items() if library_for(target) == "yes"}
     for page, pattern in SENTENCES.items():
-        named = set(re.findall("Linux|Windows|macOS", find(pattern, " ".join(read(page).split()), page)))
+        named = set(re.findall("Linux|Windows|macOS", captured(pattern, " ".join(read(page).split()), page)))
         if named != wanted:
             yield f"{page}: it names {sorted(named)}, and {sorted(wanted)} have builds"
 
 
 def has_assembly_in_rust(target):
-    cfg = find(r"(?s)macro_rules! with_assembly .*?cfg\(all\((.*?)\)\)\]", read("rust/src/lib.rs"), "rust/src/lib.rs")
+    cfg = captured(r"(?s)macro_rules! with_assembly .*?cfg\(all\((.*?)\)\)\]", read("rust/src/lib.rs"),
+                   "rust/src/lib.rs")
     systems = {"linux": "-linux-", "macos": "-darwin", "windows": "-mingw"}
     known = [mark for system, mark in systems.items() if re.search(rf'target_os = "{system}"|\b{system}\b', cfg)]
     processors = re.findall(r'target_arch = "([\w|]+)"', cfg.replace("aarch64", "aarch64|arm64"))

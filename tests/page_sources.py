@@ -18,7 +18,7 @@ def one_spaced(text):
     return " ".join(text.split())
 
 
-def find(pattern, text, where):
+def captured(pattern, text, where):
     """The one group of the pattern's first match."""
     match = re.search(pattern, text)
     if not match:
@@ -71,7 +71,7 @@ def measured(title):
     return {first: cells for first, *cells in rows_of(title)}
 
 
-def newest(rows, name):
+def row_of_newest_processor(rows, name):
     """The row of this candidate for the newest processor that was measured."""
     return rows[max(it for it in rows if it.startswith(f"ours: {name}, x86-64-v"))]
 
@@ -84,12 +84,12 @@ def size(count):
 
 def constant(path, name):
     """The value of a constant in C, Rust or Rattle that is a number or a power of two."""
-    value = find(rf"\b{name}(?:: u?size|: u64)?[ =(]+([0-9]+(?: << [0-9]+)?)\b", read(path), path)
+    value = captured(rf"\b{name}(?:: u?size|: u64)?[ =(]+([0-9]+(?: << [0-9]+)?)\b", read(path), path)
     base, _, bits = value.partition(" << ")
     return int(base) << int(bits or 0)
 
 
 def power(path, before):
     """The number in a file that is a power of two, or one less, after these words."""
-    base = find(rf"{before}\(?(?:2n \*\* |1 << )([0-9]+)n?\)?", read(path), path)
+    base = captured(rf"{before}\(?(?:2n \*\* |1 << )([0-9]+)n?\)?", read(path), path)
     return 1 << int(base)

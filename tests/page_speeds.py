@@ -1,10 +1,10 @@
 """The speeds of the pages, from the tables of bench/results/, and the ratios of these tables. Not a program."""
 import itertools
 
-from page_sources import measured, newest, rows_of, size, tables
+from page_sources import measured, rows_of, size, tables
 
 
-def of_speeds():
+def speed_rows():
     """The rows of speeds, as in tests/page_numbers.py: a page, a sentence of it with {} for numbers, and these."""
     yield from (("README.md", *row) for row in first_screen())
     yield from (("docs/SPEED.md", *row) for row in (*summary(), *behind(), *other_ratios()))

@@ -260,7 +260,7 @@ def slot_of(file, address):
     return page_of(word(m[1]), address + m.start(1)) + ((word(m[2]) >> 10 & 0xfff) << 3)
 
 
-def goes_elsewhere(file, at, name, builds):
+def why_elsewhere(file, at, name, builds):
     """Why the exported function at an address does not go on in the code of the texts, or None."""
     m = JUMPS[file.processor].match(file.bytes_at(at, 80))
     if not m:
@@ -304,5 +304,5 @@ def compare(data, marks):
         if name in symbols or len(absent) < len(builds) or any(absent.values()):
             missing = [f"for {build}: {why or 'it is not in the file'}" for build, why in absent.items()]
             whys[name] = "; ".join(missing) or (
-                goes_elsewhere(file, symbols[name], name, builds) if name in symbols else None)
+                why_elsewhere(file, symbols[name], name, builds) if name in symbols else None)
     return {build: BUILDS[file.processor][build] for build in builds}, whys, any(name in symbols for name in whys)

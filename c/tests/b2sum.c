@@ -219,7 +219,7 @@ static bool shows(int file, uint64_t at, ssize_t count, const char *wanted) {
 }
 
 /* Begins with a file at this time. */
-static void begin_at(uint64_t at, int file, const char *name) {
+static void begin_progress_at(uint64_t at, int file, const char *name) {
     time_now = at;
     begin_progress(file, name);
 }
@@ -228,13 +228,13 @@ static void check_progress(void) {
     const char *const end = "\rnnnnnnnnnnnnnnnnnnnnnnnnnnnnnnnnnnnnnend: 0 MiB, 0 MiB/s\033[K";
     char name[50] = "";
 
-    begin_at(1000, 99, "some\x1f\x7f\xff ~");
+    begin_progress_at(1000, 99, "some\x1f\x7f\xff ~");
     CHECK(shows(99, 1499, 1 << 20, "") && shows(99, 1500, 1 << 20, "\rsome??? ~: 2 MiB, 4 MiB/s\033[K"));
     CHECK(shows(99, 1599, 1 << 20, "") && shows(99, 1600, (1 << 20) - 1, "\rsome??? ~: 3 MiB, 6 MiB/s\033[K"));
     CHECK(shows(99, 1601, 0, "\r\033[K") && shows(99, 1602, 0, ""));
     memset(name, 'n', 49);
     strcpy(name + 41, "end");
-    begin_at(2000, 99, name);
+    begin_progress_at(2000, 99, name);
     CHECK(shows(99, 2600, 1, end));
     write_fails = true;
     CHECK(shows(99, 2700, 1, end));
@@ -255,7 +255,7 @@ static void check_length(void) {
     CHECK(!ftruncate(file, (off_t)1 << 40));
     memset(name, 'n', sizeof name - 1);
     sprintf(line, "\r%s: 4398046511105 MiB of 1048576, 8796093022210 MiB/s\033[K", name);
-    begin_at(5600, file, name);
+    begin_progress_at(5600, file, name);
     CHECK(shows(file, 5700, (ssize_t)1 << 62, "") && shows(file, 6100, 1 << 20, line) && shows(file, 6200, 0, "\r\033[K"));
 }
 
@@ -276,7 +276,7 @@ static void check_failure(void) {
     const int file = fileno(tmpfile());
 
     CHECK(!ftruncate(file, LEAST_BYTES + 7) && lseek(file, 7, SEEK_SET) == 7);
-    begin_at(8000, 99, "other");
+    begin_progress_at(8000, 99, "other");
     shown.count = 7;
     is_shown = true;
     hash_rest_of_file(file, 3, &state);

@@ -19,7 +19,7 @@ functions_of_b2sum() {
 
 # Whether b2sum has no function that the rest of its process would get instead of one of the C
 # library, even if it exports all that it can.
-b2sum_replaces_nothing() {
+b2sum_replaces_no_function() {
     local text=$dist/x86_64/b2sum.s
     is_x86 || text=$dist/aarch64/b2sum.s
     assemble "$text" "$work/b2sum" -rdynamic && nm -D --defined-only "$work/b2sum" >"$work/names" &&
@@ -56,7 +56,7 @@ test_program() {
     check "the C of b2sum, with sanitizers" functions_of_b2sum -fsanitize=address,undefined \
         -fno-sanitize-recover=all
     needs nm
-    check "b2sum replaces no function of the C library" b2sum_replaces_nothing
+    check "b2sum replaces no function of the C library" b2sum_replaces_no_function
     needs
     is_x86 || missing="the processor is not x86-64"
     check "what it says of processors that are made up" functions_of_program -DHAS_LEAVES=0 \

@@ -14,7 +14,7 @@
 #ifdef _WIN32
 /* Opens the file for text, as this library does not. */
 static bool as_text;
-#define OPEN(path) (as_text ? open(path, O_RDONLY | O_TEXT) : open_path(path))
+#define OPEN_FOR_READING(path) (as_text ? open(path, O_RDONLY | O_TEXT) : open_path(path))
 #endif
 #include "thread_calls.h"
 

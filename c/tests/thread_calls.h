@@ -48,8 +48,8 @@ static void make_message(size_t length, const char *folder) {
 #ifdef VULFSJOR_SYSTEM_H
 /* ---- roots */
 
-#ifndef OPEN
-#define OPEN(path) open_path(path)
+#ifndef OPEN_FOR_READING
+#define OPEN_FOR_READING(path) open_path(path)
 #endif
 #define TEXTS "salt", 4, "pers", 4
 
@@ -65,7 +65,7 @@ static int note_progress(void *ends, uint64_t count) {
 
 /* The file, open from this byte on. */
 static int open_at(size_t from) {
-    const int file = OPEN(path);
+    const int file = OPEN_FOR_READING(path);
 
     CHECK(file >= 0 && lseek(file, (off_t)from, SEEK_SET) == (off_t)from);
     return file;

@@ -574,7 +574,7 @@ static void expect_threads(int others, int (*call)(void), int (*second)(void)) {
     CHECK(started == others);
 }
 
-static void expect_of_file(size_t n, uint32_t leaf_length, unsigned threads, int others) {
+static void expect_threads_for_file(size_t n, uint32_t leaf_length, unsigned threads, int others) {
     use_file(n, leaf_length, threads);
     expect_threads(others, by_bytes, by_file);
     if (EACH_BYTE) expect_threads(others, by_update, by_rest);
@@ -584,23 +584,23 @@ static void numbers_of_threads(void) {
     static const int answers[][2] = {{3, 2}, {1, 0}, {0, 0}, {-1, 0}};
     cpu_set_t all, few;
 
-    expect_of_file(FEW, 1, 300, 255);
-    expect_of_file(FEW, 100, 5, 4);
-    expect_of_file(FEW, 100, 1, 0);
+    expect_threads_for_file(FEW, 1, 300, 255);
+    expect_threads_for_file(FEW, 100, 5, 4);
+    expect_threads_for_file(FEW, 100, 1, 0);
     use_file(FEW, FEW / 2, 5); /* two leaves */
     expect_threads(1, by_bytes, by_file);
     use_file(3001, 1000, 5); /* two leaves after one that is whole, and a byte */
     expect_threads(1, by_update, by_rest);
     CHECK(!sched_getaffinity(0, sizeof all, &all));
-    expect_of_file(FEW, 100, 0, CPU_COUNT(&all) - 1);
+    expect_threads_for_file(FEW, 100, 0, CPU_COUNT(&all) - 1);
     CPU_ZERO(&few);
     CPU_SET(sched_getcpu(), &few);
     CHECK(!sched_setaffinity(0, sizeof few, &few));
-    expect_of_file(FEW, 100, 0, 0);
+    expect_threads_for_file(FEW, 100, 0, 0);
     CHECK(!sched_setaffinity(0, sizeof all, &all));
     for (size_t i = 0; i < COUNT_OF(answers); i++) { /* the set of processors has no room for all of them */
         processors = answers[i][0];
-        expect_of_file(FEW, 100, 0, answers[i][1]);
+        expect_threads_for_file(FEW, 100, 0, answers[i][1]);
     }
     processors = INT_MIN;
 }
@@ -613,7 +613,7 @@ static void least_bytes(void) {
     } rows[] = {{(1 << 18) - 1, 0}, {1 << 18, 0},       {(1 << 19) - 1, 0},
                 {1 << 19, 1},       {(1 << 20) - 1, 2}, {1 << 20, 3}};
 
-    for (size_t i = 0; i < COUNT_OF(rows); i++) expect_of_file(rows[i].length, 1000, 8, rows[i].others);
+    for (size_t i = 0; i < COUNT_OF(rows); i++) expect_threads_for_file(rows[i].length, 1000, 8, rows[i].others);
     use_file((1 << 18) - 1, 1000, 8);
     each_call_fails(by_file, "read", ENXIO, ENXIO);
     use_file(1 << 18, 1000, 8);

@@ -43,7 +43,7 @@ class Noting {
 }
 
 // A test of modules that are new, and of which nothing is left.
-const testCalls = (name, work) => test(name, (t) => {
+const testWithNewModules = (name, work) => test(name, (t) => {
   const renew = () => [BLAKE2B, BLAKE2S, whole.TREE].forEach(({ module }) =>
     Object.assign(module, { current: undefined, initial: Object.create(null) }));
   t.after(renew);
@@ -69,7 +69,7 @@ function assertCalls(work, ...wanted) {
   assert.deepEqual(calls, wanted);
 }
 
-testCalls("a message is one call, or updates by pieces", () => {
+testWithNewModules("a message is one call, or updates by pieces", () => {
   assertCalls(() => blake2b(part(PIECE)), `blake2b ${PIECE}`);
   assertCalls(() => blake2s(part(3), { key: part(1) }), "blake2s 3");
   assertCalls(() => blake2s(part(PIECE + 1)),
@@ -85,13 +85,13 @@ testCalls("a message is one call, or updates by pieces", () => {
     "blake2sp_init_salt_personal", "blake2sp_update 3", "blake2sp_final");
 });
 
-testCalls("a tree takes the whole window at a time", () => {
+testWithNewModules("a tree takes the whole window at a time", () => {
   assertCalls(() => treeRoot(part(WINDOW), { leafLength: 5 }), "tree_init", `tree_update ${WINDOW}`, "tree_final");
   assertCalls(() => treeRoot(part(WINDOW + 1), { leafLength: 5 }),
     "tree_init", `tree_update ${WINDOW}`, "tree_update 1", "tree_final");
 });
 
-testCalls("several messages are passed in whole groups that fill window and records", () => {
+testWithNewModules("several messages are passed in whole groups that fill window and records", () => {
   const several = (count, length) => Array.from({ length: count }, () => part(length));
   assertCalls(() => blake2bMany(several(200, 10)),...[64, 64, 64, 8].map((count) => `blake2b_many ${count}`));
   assertCalls(() => blake2sMany(several(65, 0)), "blake2s_many 64", "blake2s_many 1");
@@ -103,7 +103,7 @@ testCalls("several messages are passed in whole groups that fill window and reco
     "blake2b_init_salt_personal", ...updates("blake2b", WINDOW + 1), "blake2b_final", "blake2b_many 1");
 });
 
-testCalls("leaves are passed as many as fit into the window with their digests", () => {
+testWithNewModules("leaves are passed as many as fit into the window with their digests", () => {
   const leaves = (length, leafLength) => treeLeaves(part(length), { leafLength, first: 0, ends: true });
   const most = Math.floor(WINDOW / (100 + 64) / 4) * 4 * 100; // whole groups
   assertCalls(() => leaves(2 * most + 1, 100), `tree_leaves ${most}`, `tree_leaves ${most}`, "tree_leaves 1");
@@ -115,7 +115,7 @@ testCalls("leaves are passed as many as fit into the window with their digests",
   assertCalls(() => root(WINDOW + 64), "tree_init_root", ...updates("blake2b", WINDOW + 64), "blake2b_final");
 });
 
-testCalls("equal compares halves of the window", () => {
+testWithNewModules("equal compares halves of the window", () => {
   const both = (length) => equal(part(length), message.slice(0, length));
   assertCalls(() => both(0));
   assertCalls(() => both(WINDOW / 2), `memcmp ${WINDOW / 2}`);
@@ -131,7 +131,7 @@ testCalls("equal compares halves of the window", () => {
   assert.equal(both(WINDOW + 1), true);
 });
 
-testCalls("short updates wait, and make no call", () => {
+testWithNewModules("short updates wait, and make no call", () => {
   const hash = new Blake2b();
   assertCalls(() => hash.update(part(WAITING - 1)).update(part(0)).update(part(1)));
   assertCalls(() => hash.copy().update(part(1)), `blake2b_update ${WAITING + 1}`);
@@ -149,7 +149,7 @@ testCalls("short updates wait, and make no call", () => {
     "blake2xb_init_salt_personal", "blake2xb_update 3", "blake2xb_update 4");
 });
 
-testCalls("hashes of one call absorb one after another, and short pieces wait", () => {
+testWithNewModules("hashes of one call absorb one after another, and short pieces wait", () => {
   const hashes = Array.from({ length: 4 }, () => new Blake2s());
   const updateAll = (...lengths) => Blake2s.updateMany(hashes, lengths.map(part));
   assertCalls(() => updateAll(WAITING, 0, WAITING + 1, 3), `blake2s_update ${WAITING + 1}`);
@@ -167,7 +167,7 @@ testCalls("hashes of one call absorb one after another, and short pieces wait", 
     "blake2s_update 3", `blake2s_update ${PIECE}`, `blake2s_update ${WAITING}`, "blake2s_update 3");
 });
 
-testCalls("a piece that is too long is refused before any hash absorbs", () => {
+testWithNewModules("a piece that is too long is refused before any hash absorbs", () => {
   const kind = { ...BLAKE2B, certainBelow: 2000 };
   const make = () => new Hasher(kind, "Blake2b", undefined, 0);
   const [first, late] = [make().update(part(3)), make().update(part(WAITING)).update(part(WAITING))];
@@ -189,7 +189,7 @@ testCalls("a piece that is too long is refused before any hash absorbs", () => {
   for (const hash of hashes) assert.throws(() => hash.hex(), /has ended, by .* or a failed call$/);
 });
 
-testCalls("what waits is absorbed to be saved, and waits on", () => {
+testWithNewModules("what waits is absorbed to be saved, and waits on", () => {
   const hash = new Blake2b().update(part(3));
   const saved = hash.save();
   assertCalls(() => hash.save(), "blake2b_update 3", "blake2b_save");
@@ -208,7 +208,7 @@ testCalls("what waits is absorbed to be saved, and waits on", () => {
   }
 });
 
-testCalls("what waits is never refused, and what may be refused does not wait", () => {
+testWithNewModules("what waits is never refused, and what may be refused does not wait", () => {
   // all families refuse messages of 2^58 bytes and more
   assert.equal(BLAKE2B.certainBelow, 2 ** 53);
   for (const kind of Object.values(whole)) {
@@ -229,7 +229,7 @@ testCalls("what waits is never refused, and what may be refused does not wait", 
   assertCalls(() => run.reset().update(part(1)), "blake2b_reset");
 });
 
-testCalls("what the library refuses is an error, and the memory is given up", () => {
+testWithNewModules("what the library refuses is an error, and the memory is given up", () => {
   const tree = { leafLength: 5 };
   const some = part(3);
   for (const [name, work, message = "vulfsjor: the library refused a call"] of [
@@ -257,7 +257,7 @@ testCalls("what the library refuses is an error, and the memory is given up", ()
   }
 });
 
-testCalls("an update that is too long changes nothing", () => {
+testWithNewModules("an update that is too long changes nothing", () => {
   for (const Hasher of [Blake2b, Blake2bp, Blake2sp]) {
     const wanted = new Hasher().update(part(3)).hex();
     for (const length of [WAITING - 2, PIECE + 1, 2 * PIECE]) {
@@ -294,7 +294,7 @@ testCalls("an update that is too long changes nothing", () => {
   }
 });
 
-testCalls("states have the library's sizes", () => {
+testWithNewModules("states have the library's sizes", () => {
   const { exports } = new Instance(whole.moduleOf(), {});
   const sizeOf = (name) => Number(exports[`vulfsjor_ffi_${name}_state_size`]());
   const kinds = Object.values(whole).filter(({ stateLength }) => stateLength !== undefined);
@@ -302,7 +302,7 @@ testCalls("states have the library's sizes", () => {
   for (const { name, stateLength } of kinds) assert.equal(stateLength, sizeOf(name), name);
 });
 
-testCalls("plans of ranges leave nothing in the memory", () => {
+testWithNewModules("plans of ranges leave nothing in the memory", () => {
   const plan = planOf(10_000, 7, 100, 1000);
   assert.ok(plan.count > 1);
   assertClean("planOf");
@@ -310,7 +310,7 @@ testCalls("plans of ranges leave nothing in the memory", () => {
   assertClean("partOfPlan");
 });
 
-testCalls("a memory that could not be wiped is wiped before the next call", () => {
+testWithNewModules("a memory that could not be wiped is wiped before the next call", () => {
   const key = new Uint8Array(9).fill(7);
   blake2b(key);
   const { bytes } = BLAKE2B.module.current;
@@ -323,7 +323,7 @@ testCalls("a memory that could not be wiped is wiped before the next call", () =
   assertZeros(bytes, "the memory of before");
 });
 
-testCalls("the places of state and arguments do not overlap", () => {
+testWithNewModules("the places of state and arguments do not overlap", () => {
   new Blake2b({ key: part(64), salt: part(16), personalization: part(16), tree: {} })
     .update(part(WAITING + 1)).digest();
   assert.throws(() => new Blake2b({ key: part(64) }).verify(part(64)), { name: "InvalidTagError" });

@@ -148,7 +148,7 @@ class Shared(unittest.TestCase):
         sys.setswitchinterval(1e-5)
         counts, piece, short = [], bytes(1 << 20), bytes(100)
 
-        def work():
+        def update_with_short_pieces():
             count = 0
             while long.is_alive():
                 hasher.update(short)
@@ -156,7 +156,7 @@ class Shared(unittest.TestCase):
             counts.append(count)
 
         long = threading.Thread(target=lambda: [hasher.update(piece) for _ in range(24)])
-        others = [threading.Thread(target=work) for _ in range(2)]
+        others = [threading.Thread(target=update_with_short_pieces) for _ in range(2)]
         for thread in (long, *others):
             thread.start()
         call()

@@ -366,7 +366,7 @@ class Refusals(Test):
             vulfsjor.update_many(two, [b"x", b"y"])
             self.assertEqual([each.digest() for each in two], [theirs(b"1x").digest(), theirs(b"1y").digest()])
 
-    def test_pieces(self):
+    def test_wrong_pieces(self):
         """Each kind of wrong piece, at each place, in a list and from an iterator."""
         for _, make, *_ in PLAIN:
             ours = self.objects(make)

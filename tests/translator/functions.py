@@ -110,7 +110,7 @@ calling 1: @load; {t}.const {n}; {t}.add; @call; @mix
 nesting 1: block; @body/+1; end
 nesting 1: block; loop; @fuel; @body/+2; br 0; end; end
 nesting 1: @i64/3; block; @body/1; end; @i64/2; i64.sub; @mix/i64
-nesting 2: @t/2; @plain; @t/2; {t}.sub; @mix
+nesting 2: @t/2; @plain_statement; @t/2; {t}.sub; @mix
 nesting 1: block; @body/+1; br 0; end
 nesting 1: block; @body/+1; @i64/1; br 0; end
 nesting 1: block; @t/2; @t/2; {t}.{comparison}; i32.eqz; br_if 0; @body/1; end
@@ -235,7 +235,7 @@ class Maker:
 
     # ---- what has no rule
 
-    def plain(self):
+    def plain_statement(self):
         """A statement with no other in it."""
         return self.statement(0, 0)
 
