@@ -462,7 +462,7 @@ __attribute__((noinline)) static int open_file(const char *name) {
     if (file < 0) return -1;
     if (is_list) return begin_list(file, path);
     if (!is_ahead) read_ahead(file);
-    if (is_key_next && is_shared(file)) strcpy(shared_key, path);
+    if (is_key_next && others_may_read(file)) strcpy(shared_key, path);
     if (is_shown) begin_progress(file, path);
     return file;
 }

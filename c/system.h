@@ -136,14 +136,14 @@ static inline bool is_plain(const struct stat *about, off_t most) {
 static struct {
     bool is_known, is_open;
     struct stat about;
-} output_file;
+} standard_output;
 
 /* Whether this is the file of standard output. */
 static inline bool is_output(const struct stat *about) {
-    if (!output_file.is_known) output_file.is_open = !fstat(STDOUT_FILENO, &output_file.about);
-    output_file.is_known = true;
-    return output_file.is_open && output_file.about.st_dev == about->st_dev &&
-           output_file.about.st_ino == about->st_ino;
+    if (!standard_output.is_known) standard_output.is_open = !fstat(STDOUT_FILENO, &standard_output.about);
+    standard_output.is_known = true;
+    return standard_output.is_open && standard_output.about.st_dev == about->st_dev &&
+           standard_output.about.st_ino == about->st_ino;
 }
 
 /* Opens a regular file with 1 to most bytes for reading, which is not standard output. It waits for
@@ -218,7 +218,7 @@ static inline void read_ahead(int file) {
 }
 
 /* Whether it is a regular file that users other than its owner may read. */
-static inline bool is_shared(int file) {
+static inline bool others_may_read(int file) {
     struct stat about;
 
     return !fstat(file, &about) && S_ISREG(about.st_mode) && about.st_mode & (S_IRGRP | S_IROTH);
@@ -512,7 +512,7 @@ static inline const char *next_entry(folder *it, char *kind) {
 static inline void read_ahead(int file) { (void)file; }
 
 /* Who may read a file is not looked at. */
-static inline bool is_shared(int file) {
+static inline bool others_may_read(int file) {
     (void)file;
     return false;
 }

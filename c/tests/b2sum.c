@@ -565,16 +565,16 @@ static void check_others(void) {
 static void check_output(void) {
     const int output = dup(STDOUT_FILENO), file = openat(AT_FDCWD, "output", O_RDONLY);
 
-    output_file.is_known = false;
+    standard_output.is_known = false;
     looks = 0;
     CHECK(dup2(file, STDOUT_FILENO) == STDOUT_FILENO && !close(file));
     CHECK(error_ahead("output") == EAGAIN && !error_ahead("most") && error_after(make_output) == EAGAIN);
     CHECK(looks == 1);
     device_added = 1; /* a file with that number on another device is another one */
-    output_file.is_known = false;
+    standard_output.is_known = false;
     CHECK(!error_ahead("output"));
     device_added = 0;
-    output_file.is_known = false;
+    standard_output.is_known = false;
     close(STDOUT_FILENO);
     CHECK(dup(output) == STDOUT_FILENO && !close(output) && !error_ahead("output"));
 }

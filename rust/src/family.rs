@@ -284,7 +284,7 @@ macro_rules! sequential {
                 params.check_key($max)?;
                 let Params { output_size, salt, persona, tree, last_node, .. } = *params;
                 let key = params.key_or_none();
-                library::need_a_build();
+                library::panic_without_build();
                 let mut hasher = $hasher { state: $state::ZEROS };
                 let node = library::Tree {
                     node_offset: tree.node_offset,
@@ -493,7 +493,7 @@ macro_rules! sequential {
             /// [`InvalidState`] exactly if [`save`](Self::save) returns these bytes for no hasher,
             /// such as those of another hash, of a later version, or cut off.
             pub fn load(saved: &[u8]) -> Result<Self, InvalidState> {
-                library::need_a_build();
+                library::panic_without_build();
                 let mut hasher = $hasher { state: $state::ZEROS };
                 // Safety: the pointer comes from a slice of this length, which the state cannot
                 // overlap.
@@ -506,7 +506,7 @@ macro_rules! sequential {
 }
 
 // What BLAKE2bp and BLAKE2sp have instead.
-macro_rules! parallel {
+macro_rules! parallel_methods {
     ($hasher:ident, $state:ident, $max:literal, $limits:expr, $init:ident) => {
         impl $hasher {
             /// Returns a hasher with these parameters.
@@ -524,7 +524,7 @@ macro_rules! parallel {
                 params.check_key($max)?;
                 let Params { output_size, salt, persona, .. } = *params;
                 let key = params.key_or_none();
-                library::need_a_build();
+                library::panic_without_build();
                 let mut hasher = $hasher { state: $state::ZEROS };
                 // Safety: the pointers come from slices of these lengths, and none is null. The
                 // state overlaps none of them.
@@ -645,7 +645,7 @@ sequential!(
     blake2s_load
 );
 
-parallel!(
+parallel_methods!(
     Blake2bp,
     Blake2bpState,
     64,
@@ -653,7 +653,7 @@ parallel!(
     blake2bp_init_salt_personal
 );
 
-parallel!(
+parallel_methods!(
     Blake2sp,
     Blake2spState,
     32,

@@ -11,7 +11,7 @@ with_assembly! {
     // Panics if the processor can run none of the builds. A hasher is made after this call, since a
     // later panic would drop it, and the wipe of the drop would be a second panic.
     #[inline(never)]
-    pub(crate) fn need_a_build() {
+    pub(crate) fn panic_without_build() {
         #[cfg(target_arch = "x86_64")]
         if level() == 0 {
             ask();
@@ -20,7 +20,7 @@ with_assembly! {
 
     // The text that runs, by its name in `dist/`.
     pub(crate) fn text_name() -> &'static str {
-        need_a_build();
+        panic_without_build();
         #[cfg(target_arch = "x86_64")]
         return ["x86_64/vulfsjor-v2.s", "x86_64/vulfsjor-v3.s", "x86_64/vulfsjor-v4.s"]
             [usize::from(level()) - 2];
@@ -33,7 +33,7 @@ without_assembly! {
     mod portable;
 
     // Every processor can run it.
-    pub(crate) fn need_a_build() {}
+    pub(crate) fn panic_without_build() {}
 
     pub(crate) fn text_name() -> &'static str {
         "rust/vulfsjor.rs"

@@ -568,7 +568,7 @@ mod choice {
         let v4 = v3 && v4 && has!("avx512cd") && has!("avx512dq");
         let wanted = 2 + u8::from(v3) + u8::from(v4);
         assert_eq!(level_of_processor(), wanted);
-        library::need_a_build();
+        library::panic_without_build();
         assert_eq!(level(), wanted);
     }
 

@@ -18,7 +18,7 @@ pub struct TreeHasher {
 impl TreeHasher {
     // A hasher that refuses every call, before the library initializes it.
     pub(crate) fn of_no_tree() -> Self {
-        library::need_a_build();
+        library::panic_without_build();
         TreeHasher {
             state: TreeState::ZEROS,
         }

@@ -45,7 +45,7 @@ macro_rules! xof {
                     check_range("output_size", length, 1, $unknown - 1)?;
                 }
                 let key = params.key_or_none();
-                library::need_a_build();
+                library::panic_without_build();
                 let mut hasher = $hasher { state: $state::ZEROS };
                 // Safety: the pointers come from slices of these lengths, and none is null. The
                 // state overlaps none of them.
