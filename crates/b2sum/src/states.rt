@@ -60,8 +60,9 @@ pub trait HashState: Absorb {
     // The number of bytes that the key counts for.
     ghost key_count: { StateParameters → ℕ };
 
-    /// Returns the zeroed state.
-    fn zeros() -> Self;
+    /// Returns the zeroed state, which is not ready.
+    fn zeros() -> Self
+        ensures { ¬ Self.IsReady result };
 
     /// Initializes the state. Returns whether it accepts the parameters.
     fn init_given(&mut self, given: &StateParameters<'_>) -> bool
