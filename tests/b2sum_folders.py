@@ -497,8 +497,8 @@ def change_many(runs, at):
 
 
 def test_faults(runs):
-    """Each call fails in turn, in the short form each fourth, alone and with all later ones: no line is wrong, the status
-    shows it, and nothing is sealed. A file is opened and read again that fails before its turn."""
+    """Each call fails in turn, in the short form each fourth, alone and with all later ones: no line is wrong, the
+    status shows it, and nothing is sealed. A file is opened and read again that fails before its turn."""
     runs.write("key", KEY)
     make_tree(runs, [f"n{number}" for number in range(12)] + ["d/m", "d/e/m"])
     runs.write("sums", list_of({name: data_of(runs.folder, name) for name in below(runs.folder, ["tree"])[0]}))
