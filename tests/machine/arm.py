@@ -7,7 +7,7 @@ from typing import Any
 import machine
 import terms as T
 from machine import (ON_VECTORS, ON_WORDS, Operand, Processor, bitwise, chunks, image, joined, lanewise, need_public,
-                     no_rule, number, picked, total)
+                     no_rule, number, picked)
 from terms import CannotShow, IsWrong
 
 SP, ZERO, LINK, PLATFORM = 31, 32, 30, 18
@@ -95,7 +95,7 @@ ONLY_FLAGS = ("cmn", "cmp", "tst")
 
 # What instructions write if a condition holds, and if not, by the size and their operands.
 SELECTS: dict = {
-    "csel": lambda n, a, b: (a, b), "csinc": lambda n, a, b: (a, T.split(total(T.word(b), T.const(8 * n, 1)))),
+    "csel": lambda n, a, b: (a, b), "csinc": lambda n, a, b: (a, T.split(T.word(b) + 1)),
     "cinc": lambda n, a: SELECTS["csinc"](n, a, a)[::-1],
     "cinv": lambda n, a: (bitwise(T.xor, a, [255] * n), a),
     "cset": lambda n: ([1], [0]), "csetm": lambda n: ([255] * n, [0] * n),
@@ -104,7 +104,7 @@ SELECTS: dict = {
 
 def accumulate(n: int, old: list, data: list, k: int) -> list:
     """Adds words that are shifted to the right. If no bits overlap, the sum is the same as or."""
-    add = lambda a, b: T.rotation(a.w, a, b) or T.disjoint(a, b) or total(a, b)
+    add = lambda a, b: T.rotation(a.w, a, b) or T.disjoint(a, b) or a + b
     return lanewise(add, n, old, ON_VECTORS["shr"](n, data, k))
 
 
@@ -134,9 +134,9 @@ class Arm(Processor):
     """Registers 0 to 30, the stack pointer as the 32nd, and vector registers of 16 bytes."""
 
     FILES = {"general": (32, 8), "vector": (32, 16)}
-    STACK_POINTER = "general", SP
+    STACK_POINTER, LINK = ("general", SP), LINK
     ARGUMENTS: tuple = tuple(range(8))
-    SAVED = tuple(range(19, 30))
+    SAVED, SAVED_HALVES = tuple(range(19, 30)), tuple(range(8, 16))
     RELATIONS = {"eq": "==", "ne": "!=", "cc": "<", "cs": ">=", "hi": ">", "ls": "<="}
     SIGNED = {"lt": "<", "ge": ">=", "gt": ">", "le": "<="}
     CARRY = {"cs": "carry", "cc": "no carry"}
@@ -145,28 +145,12 @@ class Arm(Processor):
 
     # The calling convention.
 
-    def start(self, sp: T.Term, back: T.Term, arguments: list) -> None:
-        super().start(sp, back, arguments)
-        self.values.general[LINK] = T.split(back)
-
-    def at_entry(self) -> tuple:
-        m = self.values
-        saved = joined(m.general[r] for r in self.SAVED) + joined(m.vector[r][:8] for r in range(8, 16))
-        return list(m.general[LINK]), T.split(m.stack_pointer()), saved
-
-    def enter(self) -> T.Term:
-        """A call sets the register of the return address."""
-        self.check_stack()
-        link = self.values.new(64, "link")
-        self.values.general[LINK] = T.split(link)
-        return link
-
-    def leave(self, link: T.Term) -> None:
-        """That register belongs to the call."""
+    def set_link(self, data: list) -> None:
+        """The register belongs to the call."""
+        self.values.general[LINK] = data
 
     def clobbered_vector(self, j: int, old: list, what: str) -> list:
-        """The low halves of 8 to 15 belong to the caller."""
-        start = 8 if 8 <= j < 16 else 0
+        start = 8 if j in self.SAVED_HALVES else 0
         return old[:start] + self.values.lost(16 - start, what)
 
     # Operands.
@@ -199,7 +183,7 @@ class Arm(Processor):
         if m.mode == "after":
             return base
         other = T.word(self.read(m.index)) if m.index else T.const(64, m.offset)
-        moved = T.add(64, (1, base), (1, other))
+        moved = base + other
         if m.mode == "before":
             self.write(m.base, T.split(moved))
         return moved
@@ -208,7 +192,7 @@ class Arm(Processor):
         """Moves the base register after an access, if it does that."""
         if m.mode == "after":
             base = T.word(self.read(m.base))
-            self.write(m.base, T.split(T.add(64, (1, base), (1, T.const(64, m.offset)))))
+            self.write(m.base, T.split(base + m.offset))
 
     # Conditions.
 
@@ -295,7 +279,7 @@ class Arm(Processor):
         if name in SETS_FLAGS or name in WORDS:
             return self.compute(name, ops)
         if name == "adrp":
-            return T.split(T.add(64, (1, image()), (1, T.const(64, ops[1].value))))
+            return T.split(image() + ops[1].value)
         if name in ("mov", "fmov", "umov"):
             return (self.read(ops[1], size) + [0] * size)[:size]
         if name in ("sxth", "sxtw"):
@@ -336,7 +320,7 @@ class Arm(Processor):
         words = [] if name in ADDS else list(map(T.word, rest))
         f = lambda x, y: WORDS[operation](m, x, y, *words)
         data = m.computed(flags, f, a, b) if flags else self.quietly(f, a, b)
-        return self.quietly(lambda x, y: total(x, y, ADDS[name]), rest[0], data) if name in ADDS else data
+        return self.quietly(lambda x, y: x + ADDS[name] * y, rest[0], data) if name in ADDS else data
 
     def of_vectors(self, name: str, ops: list) -> list | None:
         to, m = ops[0], self.values

@@ -23,7 +23,7 @@ import rfc7693 as R
 import terms as T
 import xof_specification as X
 from facts import Facts
-from machine import Aligned, image, joined
+from machine import joined
 from path_values import need_same
 from symbolic import Buffer, Cells, Exact, Piece, fresh
 from terms import CannotShow, IsWrong
@@ -61,7 +61,7 @@ class Case:
         self.others: list = []         # the first choices of cases that choose otherwise
         self.known = Facts()
         self.arguments: list = []
-        self.regions: dict = {image(): Cells(0, 1 << 32, self.calls.program.constant, False, (4096, 0))}
+        self.regions: dict = self.calls.program.memory()
         self.limits: dict = {}         # the bounds of variables, by their names
         self.places: dict = {}         # the addresses of arguments, by their names
         self.structs: dict = {}        # the bytes of some of them
@@ -186,16 +186,11 @@ class Case:
 
     def machine(self, alignment: tuple) -> Any:
         """The values at the entry. Variables of which the value is known are numbers there."""
-        cpu, sp, back = self.calls.cpu, T.var(64, "sp", T.PUBLIC), T.var(64, "return address", T.PUBLIC)
-        m = Exact(self.regions, cpu, alignment, self.known)
+        m = Exact(self.regions, self.calls.cpu, alignment, self.known)
         for data in self.structs.values():
             data[:] = map(m.byte_normalizer(), data)
         arguments = [m.settled(t) for t in self.arguments]
-        above = [back] if self.calls.program.kind == "x86_64" else []
-        above = [b for t in above + arguments[len(cpu.ARGUMENTS):] for b in T.split(t)]
-        self.regions[sp] = Cells(-constant_time.STACK, len(above), lambda k: above[k] if k >= 0 else fresh(
-            "stack", T.JUNK)[0], True, alignment)
-        cpu(m).start(sp, back, arguments)
+        self.calls.cpu(m).start(arguments, constant_time.STACK, lambda: fresh("stack", T.JUNK)[0])
         return m
 
     def run(self, name: str, expected: Callable, alignment: tuple) -> int:
@@ -205,7 +200,7 @@ class Case:
             raise CannotShow("no path of the call is possible")
         for end in ends:
             a = Terms(self.calls, end)
-            self.compare(end, *expected(a))
+            self.compare(end, a, *expected(a))
             must_scrub = not self.reads_key or S.must_scrub(a, *self.reads_key)
             left = [at for at, is_key in end.secrets.items() if must_scrub or is_key]
             if left:
@@ -216,16 +211,17 @@ class Case:
             self.visit(end)
         return len(ends)
 
-    def compare(self, m: Any, result: Any, state: Any, out: Any) -> None:
+    def compare(self, m: Any, a: Terms, result: Any, state: Any, out: Any) -> None:
         """What a call has left, and what it should."""
         need = partial(need_same, m, self.calls.results)
         if callable(result):
             result = result(m)
         if result is not None:
-            wanted = T.split(T.const(32, result) if isinstance(result, int) else result)
+            wanted = T.split(T.of(32, result))
             need("the result", self.calls.cpu(m).answer()[:len(wanted)], wanted)
         if "state" in self.places:
-            need("the state", self.left(m, "state", len(self.structs["state"])), bytes_of(self.fields, state))
+            need("the state", m.left(self.places["state"], len(self.structs["state"])),
+                 bytes_of(self.fields, state, a.word))
         if callable(out):
             out(m)
         elif m.pieces:
@@ -233,19 +229,13 @@ class Case:
         elif "out" in self.places:
             at = self.places["out"]
             n = max([len(out) - 1] + [k for base, k in m.memory if base is at]) + 1
-            need("the output", self.left(m, "out", n), out + [
-                self.regions[at].initial(k) for k in range(len(out), n)])
-
-    def left(self, m: Any, name: str, n: int) -> list:
-        """The first bytes of an argument after a call."""
-        at = self.places[name]
-        return [m.memory.get((at, k), self.regions[at].initial(k)) for k in range(n)]
+            need("the output", m.left(at, n), out + [self.regions[at].initial(k) for k in range(len(out), n)])
 
 
-def bytes_of(fields: tuple, values: S.State) -> list:
-    """The bytes of a struct in memory."""
+def bytes_of(fields: tuple, values: S.State, word: Callable = partial(T.of, 64)) -> list:
+    """The bytes of a struct in memory. word() makes a word of a number."""
     words = ((f, vars(values)[f.name]) for f in fields)
-    return joined(v if f.element else T.split(T.const(64, v) if isinstance(v, int) else v)[:f.size] for f, v in words)
+    return joined(v if f.element else T.split(word(v))[:f.size] for f, v in words)
 
 
 def variable_of(t: T.Term) -> T.Term:
@@ -312,23 +302,20 @@ class Cases:
 
     def show_case(self, export: str, choices: tuple) -> tuple:
         """The case with these first choices, at each alignment of the stack that matters, and its paths, or none."""
-        waiting, paths = [(16, 8 if self.calls.program.kind == "x86_64" else 0)], 0
-        while waiting:
-            self.calls.forget()
-            self.calls.exported = self.prefix + export
-            at = waiting.pop()
+        calls, name, cases = self.calls, self.prefix + export, []
+
+        def paths(alignment: tuple) -> int:
+            calls.forget()
+            calls.exported = name
             case, expected = self.filled(export, choices)
+            cases.append(case)
             try:
-                paths += case.run(self.calls.exported, expected, at) if case.is_possible() else 0
-            except Aligned as e:
-                waiting += [(e.need, k) for k in range(at[1], e.need, at[0])]
+                return case.run(name, expected, alignment) if case.is_possible() else 0
             except Unmeasured as e:
-                compression.show(self.calls.program, e.args[0], *self.calls.listed[e.args[0]])
-                waiting.append(at)
-            except T.Refused as e:
-                where = " ".join(self.calls.at.text.split()) if self.calls.at else "the entry"
-                raise type(e)("%s, case %s: at %s: %s" % (self.calls.exported, case.title(), where, e))
-        return case, paths
+                compression.show(calls.program, *calls.listed[e.args[0]])
+            return paths(alignment)
+        found = calls.at_alignments(lambda: "%s, case %s" % (name, cases[-1].title() if cases else choices), paths)
+        return cases[-1], sum(found)
 
     # States.
 
@@ -385,7 +372,7 @@ class Cases:
         fill = block - pending if pending else 0
         k = case.number("K", *((1, MOST // block) if way == "blocks" else OFF))
         t = case.number("t", 1, block)
-        n = T.add(64, (1, T.const(64, fill)), (block, k), (1, t))
+        n = T.const(64, fill) + block * k + t
         blocks = k.args if k.op == "const" else k
         case.bound((n,), 0, MOST)
         return n, lambda a, s, data: S.update_many(a, kind, s, data, blocks, t)
@@ -541,7 +528,7 @@ def need_zeros(m: Any, out: T.Term, n: T.Term) -> None:
             raise CannotShow("it writes %s at %r" % (data, piece.offset))
         m.need("zeros from %r on, not from %r on" % (piece.offset, end),
                ("==", m.settled(piece.offset), m.settled(end)))
-        end = T.add(64, (1, end), (1, piece.length))
+        end += piece.length
     m.need("%r zeros, not %r" % (end, n), ("==", m.settled(end), m.settled(n)))
 
 
@@ -573,7 +560,7 @@ class OutputCases(Cases):
 
     def left(self, case: Case) -> Callable:
         s = self.ready(case, case.pass_state())
-        return lambda a: (a.minus(X.output_length(self.kind, s.xof_length, case.is_known), s.position), s, [])
+        return lambda a: (a.word(X.output_length(self.kind, s.xof_length, case.is_known) - s.position), s, [])
 
     def reset(self, case: Case) -> Callable:
         s = self.ready(case, case.pass_state())
@@ -596,7 +583,7 @@ class OutputCases(Cases):
         reading, node, *is_known = case.unless_refused((FREE, FREE), *READS[1::4] if self.is_short else READS)
         place = case.variable("place in a block", 8)
         case.bound((place,), 0, kind.w - 1)
-        position = T.add(64, (kind.w, case.number("block", 0, MOST // kind.w)), (1, loops.of_byte(place)))
+        position = kind.w * case.number("block", 0, MOST // kind.w) + loops.of_byte(place)
         s, n = case.pass_state(position=position), case.number("n")
         case.pass_buffer("out", n)
         self.ready(case, s, *is_known)

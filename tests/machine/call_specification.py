@@ -2,8 +2,8 @@
 RFC 7693. In this file a reviewer reads what whole_calls.py shows.
 
 Each function below is that of the export of its name. A state is the struct of vulfsjor.h, with the names of its
-fields. `a` has the operations on bytes: over numbers, and over terms. With numbers, check_specification.py compares
-the digests with hashlib's. With terms, whole_calls.py compares all bytes that the machine code writes.
+fields. `a` has the operations on bytes: over numbers, and over terms. With numbers, check_paths.py compares the
+digests with hashlib's. With terms, whole_calls.py compares all bytes that the machine code writes.
 
 A byte string is a list of bytes; one of a length that is no number has as many bytes as it may have at most. Words are
 lists of bytes too, the lowest first (2.4). `a.below(j, n, x, y)` is the byte x if j < n, and otherwise y."""
@@ -155,7 +155,7 @@ def update_few(a: Any, kind: Kind, s: State, data: Buffer | Callable, n: Any) ->
     """n bytes that the pending block has room for: pending_length + n <= block."""
     at = s.pending_length
     pending = s.pending[:at] + [a.below(j, n, data(j), s.pending[at + j]) for j in range(kind.block - at)]
-    return s.but(pending=pending, pending_length=a.plus(at, n))
+    return s.but(pending=pending, pending_length=at + n)
 
 
 def update_many(a: Any, kind: Kind, s: State, data: Buffer | Callable, k: Any, t: Any) -> State:
@@ -164,20 +164,20 @@ def update_many(a: Any, kind: Kind, s: State, data: Buffer | Callable, k: Any, t
     fill = kind.block - s.pending_length if s.pending_length else 0
     chain, count = s.chain, s.counter
     if s.pending_length:
-        count = a.plus(count, kind.block)
+        count = count + kind.block
         block = s.pending[:s.pending_length] + [data(j) for j in range(fill)]
         chain = a.compress(kind, chain, block, count, 0, 0)
     chain = a.compress_all(kind, chain, data, fill, k, count)
-    rest = a.plus(fill, a.times(kind.block, k))
-    pending = [a.below(j, t, data(a.plus(rest, j)), 0) for j in range(kind.block)]
-    return s.but(chain=chain, counter=a.plus(count, a.times(kind.block, k)), pending=pending, pending_length=t)
+    rest = a.word(fill + kind.block * k)
+    pending = [a.below(j, t, data(rest + j), 0) for j in range(kind.block)]
+    return s.but(chain=chain, counter=count + kind.block * k, pending=pending, pending_length=t)
 
 
 def digest(a: Any, kind: Kind, s: State) -> list:
     """The longest digest: the last block, padded with zeros, with the flag f0, and f1 if the node is the last one
     (3.3; the BLAKE2 document, 2.10)."""
     block = [a.below(j, s.pending_length, b, 0) for j, b in enumerate(s.pending)]
-    count = a.plus(s.counter, s.pending_length)
+    count = s.counter + s.pending_length
     return a.compress(kind, s.chain, block, count, 1, int(a.holds("!=", s.last_node, 0)))
 
 
@@ -209,5 +209,5 @@ def set_last_node(s: State, on: bool) -> State:
 
 def count(a: Any, s: State) -> Term | int:
     """What was absorbed since the start, without the key's block, and at least 0."""
-    absorbed = a.plus(s.counter, s.pending_length)
-    return 0 if a.holds("<", absorbed, s.start_length) else a.minus(absorbed, s.start_length)
+    absorbed = s.counter + s.pending_length
+    return 0 if a.holds("<", absorbed, s.start_length) else absorbed - s.start_length

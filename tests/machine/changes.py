@@ -12,7 +12,7 @@ import call_cases
 import check_coverage
 import check_instructions
 import check_numbers
-import check_specification
+import check_paths
 import compression
 import constant_time
 import functions
@@ -264,14 +264,13 @@ class Planted(NamedTuple):
 
 
 ARM, V3 = FILES["arm"], FILES["v3"]
-_Taint, _X86, S = constant_time.Taint, programs.x86.X86, check_specification.S
+_Taint, _X86, S = constant_time.Taint, programs.x86.X86, check_paths.S
 PLANTED = (
     Planted("an operation that forgets secrets", _Taint, "mixed", lambda _: (
         lambda self, data: taint.UNKNOWN_BYTE), check_instructions.check, (ARM, "T", 2), True),
     Planted("a carry that inc sets", _X86, "add_and_keep_carry", lambda _: (
-        lambda self, i, to: self.arithmetic(
-            "other", lambda a, b: programs.x86.total(a, b, programs.x86.KEEP_CARRY[i.name]), to, programs.x86.ONE)),
-            check_instructions.check, (V3, "T", 6), True),
+        lambda self, i, to: self.arithmetic("other", lambda a, _: a + programs.x86.KEEP_CARRY[i.name], to,
+                                            programs.x86.ONE)), check_instructions.check, (V3, "T", 6), True),
     Planted("a sum whose range is that of one of two paths that meet", _Taint, "relate", lambda right: (
         lambda self, m, _, visits, *words: right(self, m, m, visits, *words[:2], words[1])),
             check_numbers.check_secrets, (200,)),
@@ -281,8 +280,8 @@ PLANTED = (
         lambda *arguments: (right(*arguments)[0], [t for t in right(*arguments)[1] if not t[0].startswith("usra")])),
             check_instructions.check, (ARM, "W", 1), True),
     Planted("a specification without the flag of the last block", S, "digest", lambda _: (
-        lambda a, kind, s: a.compress(kind, s.chain, s.pending, a.plus(s.counter, s.pending_length), 0, 0)),
-            check_specification.check, (1,)),
+        lambda a, kind, s: a.compress(kind, s.chain, s.pending, s.counter + s.pending_length, 0, 0)),
+            check_paths.check_digests, (1,)),
     Planted("a specification that accepts too long an output", S, "admits", lambda right: (
         lambda kind, size, *rest: [((size,), 1, kind.w + 1)] + right(kind, size, *rest)[1:]),
             lambda: call_cases.Cases(programs.read(V3), "blake2s").show("_init_key")),

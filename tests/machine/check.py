@@ -42,7 +42,6 @@ import check_coverage
 import check_instructions
 import check_numbers
 import check_paths
-import check_specification
 import check_terms
 import check_wasm_instructions
 import compression
@@ -122,8 +121,7 @@ def missing_feature(path: str) -> str | None:
 def compress(path: str, name: str, kind: Any, lanes: int) -> str:
     """F of one function."""
     runner, seconds = compression.show(programs.read(path), functions.in_file(path, name), kind, lanes)
-    return "%d instructions, %d executed on %d paths, %.1f s" % (
-        len(runner.code), runner.count, runner.paths, seconds)
+    return "%d instructions, %d executed on %d paths, %.1f s" % (len(runner.code), runner.count, runner.paths, seconds)
 
 
 def search(path: str) -> tuple:
@@ -342,7 +340,7 @@ def tests_of_the_tool() -> Iterator[Job]:
               for seed in range(few(4, 1))],
             *[("the tool's tests see %s" % change.title, assembly, change.show)
               for change in changes.PLANTED if is_long() or not change.is_long],
-            ("the specification of whole calls agrees with hashlib", None, check_specification.check, few(400, 10)),
+            ("the specification of whole calls agrees with hashlib", None, check_paths.check_digests, few(400, 10)),
             *[("the cases of each call of %s are all calls" % call_cases.TITLES[family], SOLVER, check_coverage.check,
                family, is_long()) for family in few(tuple(call_cases.TITLES), SHORT_COVERED)],
             ("the ranges of words that are followed have their numbers", None,

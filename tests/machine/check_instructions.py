@@ -6,13 +6,9 @@ must then be the same. Of flags all conditions are compared, also after two inst
 flags, and the second keeps some or reads them. What the model accepts at an odd address runs there.
 check_wasm_instructions.py does it for WebAssembly."""
 
-import itertools
-import os
 import random
 import re
 import struct
-import subprocess
-import tempfile
 from typing import Any, Iterator, NamedTuple
 
 import call_cases
@@ -21,8 +17,9 @@ import forms
 import functions
 import terms as T
 import x86
+from hostile import JUNK, Crash, Hostile
 from machine import Cells, Flags
-from program import read, Program, TOOLS
+from program import OF_C, read, Program
 from symbolic import Exact, Undecided
 from taint import SECRET_BYTE, Taint, is_secret
 
@@ -33,33 +30,11 @@ SPAN = (-BUFFER, BUFFER)
 USERS = {"T": (3, 4, 9), "W": (7, 6, 8)}
 OF_ZERO = ("add", "sub", "dec", "xor", "test", "shr", "shl", "cmp", "subs", "tst")
 # A state: 32 general registers, vectors, the zero flag before and all flags afterwards, masks and memory. In place of
-# the last register, which has no name, a test reads its number, shifted, and whether the base of its memory is odd;
-# afterwards it has the base.
+# the last register, which has no name, is the base of the memory.
 LAST, VECTORS, ZERO = 248, 256, 256 + 2048
 FLAGS, MASKS = ZERO + 8, ZERO + 64
 MEMORY = MASKS + 64
 SIZE = MEMORY + 2 * BUFFER
-# The program of the tests, which needs no C library, with the numbers of its system calls: it reads states from a file,
-# and writes each after its test.
-C = """
-static unsigned long s[%d] __attribute__((aligned(64)));
-extern void (*const tests[])(unsigned long *);
-extern const unsigned char bases[];
-extern long call(long, void *, long, long number);
-void run(void) {
-    while (call(0, s, sizeof s, %%d) == sizeof s) {
-        unsigned long k = s[31] >> 1;
-        s[31] = s[bases[k]] = (unsigned long)s + %d + (s[31] & 1);
-        tests[k](s);
-        call(1, s, sizeof s, %%d);
-    }
-    call(0, 0, 0, %%d);
-}
-""" % (SIZE // 8, MEMORY + BUFFER)
-CALLS = {"x86_64": (0, 1, 60), "aarch64": (63, 64, 93)}
-START = {"x86_64": [".intel_syntax noprefix", ".globl _start, call", "_start: call run",
-                    "call: mov rax, rcx", "syscall", "ret"],
-         "aarch64": [".globl _start, call", "_start: bl run", "call: mov x8, x3", "svc 0", "ret"]}
 NAMES = "rax rcx rdx rbx rsp rbp rsi rdi r8 r9 r10 r11 r12 r13 r14 r15".split()
 # Addresses that the files do not have. Indices are small, since r12 and r13 hold them.
 EXTRA: dict = {"aarch64": [], "x86_64": [
@@ -108,41 +83,32 @@ def x86_test(text: str, vectors: tuple) -> list:
                                             VECTORS + size * j) for j in range(count)]
     if size == 64:
         moves += ["kmovq k%d, [rax+%d]" % (j, MASKS + 8 * j) for j in range(8)]
-    saved = "rbx rbp r12 r13 r14 r15".split()
     others = [(j, n) for j, n in enumerate(NAMES) if n not in ("rax", "rsp")]
-    out = ["push " + r for r in saved] + ["push rdi", "mov rax, rdi"]
-    out += moves + ["cmp byte ptr [rax+%d], 0" % ZERO]
+    out = ["push rdi", "mov rax, rdi"] + moves + ["cmp byte ptr [rax+%d], 0" % ZERO]
     out += ["mov %s, [rax+%d]" % (n, 8 * j) for j, n in others]
     out += ["mov rax, [rax]", text, "push rax", "pushfq", "mov rax, [rsp+16]", "pop qword ptr [rax+%d]" % FLAGS]
     out += ["mov [rax+%d], %s" % (8 * j, n) for j, n in others] + ["pop rbx", "mov [rax], rbx"]
     out += [re.sub(r" (.*), (.*)", r" \2, \1", move) for move in moves]
-    return out + ["vzeroupper", "pop rdi"] + ["pop " + r for r in reversed(saved)] + ["ret"]
+    return out + ["vzeroupper", "pop rdi", "ret"]
 
 
 def arm_test(text: str, _: tuple) -> list:
     """The same for ARM."""
-    saved = ["p x%d, x%d, [sp, #%d]" % (19 + 2 * j, 20 + 2 * j, 16 * j) for j in range(6)]
-    saved += ["p d%d, d%d, [sp, #%d]" % (8 + 2 * j, 9 + 2 * j, 96 + 16 * j) for j in range(4)]
     vectors = ["r q%d, [x1, #%d]" % (j, 16 * j) for j in range(32)]
-    out = ["sub sp, sp, #192"] + ["st" + s for s in saved]
-    out += ["str x0, [sp, #160]", "add x1, x0, #256"] + ["ld" + v for v in vectors]
+    out = ["stp x0, x30, [sp, #-32]!", "add x1, x0, #256"] + ["ld" + v for v in vectors]
     out += ["ldrb w1, [x0, #%d]" % ZERO, "cmp w1, #0"]
     out += ["ldr x%d, [x0, #%d]" % (j, 8 * j) for j in range(30, -1, -1)]
-    out += [text, "str x0, [sp, #168]", "ldr x0, [sp, #160]"]
+    out += [text, "str x0, [sp, #16]", "ldr x0, [sp]"]
     out += ["str x%d, [x0, #%d]" % (j, 8 * j) for j in range(1, 31)]
-    out += ["ldr x1, [sp, #168]", "str x1, [x0]", "mrs x1, nzcv", "str x1, [x0, #%d]" % FLAGS]
-    out += ["add x1, x0, #256"] + ["st" + v for v in vectors] + ["ld" + s for s in saved]
-    return out + ["add sp, sp, #192", "ret"]
+    out += ["ldr x1, [sp, #16]", "str x1, [x0]", "mrs x1, nzcv", "str x1, [x0, #%d]" % FLAGS]
+    return out + ["add x1, x0, #256"] + ["st" + v for v in vectors] + ["ldp x0, x30, [sp], #32", "ret"]
 
 
 def assembly(kind: str, tests: list, vectors: tuple) -> str:
-    """The text of all tests, a table of them, and one of their base registers."""
-    out = [".text"] + START[kind]
+    """The text of all tests."""
+    out = [".intel_syntax noprefix"] * (kind == "x86_64") + [".text"]
     for k, (text, _) in enumerate(tests):
         out += ["t%d:" % k] + (x86_test if kind == "x86_64" else arm_test)(text, vectors)
-    out += [".section .data.rel.ro,\"aw\"", ".balign 8", ".globl tests", "tests:"]
-    out += [".8byte t%d" % k for k in range(len(tests))]
-    out += [".section .rodata", ".globl bases", "bases:"] + [".byte %d" % b for _, b in tests]
     return "\n".join(out + ['.section .note.GNU-stack,"",%progbits', ""])
 
 
@@ -175,12 +141,12 @@ def reached(program: Program, waiting: list, left_out: list) -> list:
     found: set = set()
     while waiting:
         name = waiting.pop()
-        if name in found or name in left_out or name in constant_time.OF_C:
+        if name in found or name in left_out or name in OF_C:
             continue
         found.add(name)
         code = program.code(name)
         inside = {i.address for i in code}
-        waiting += [program.target(i, constant_time.OF_C) for i in code
+        waiting += [program.target(i, OF_C) for i in code
                     if i.target is not None and i.target not in inside]
     return sorted(found)
 
@@ -332,23 +298,6 @@ def fit(kind: str, text: str, data: Any, rng: Any) -> None:
         data[MEMORY:] = bytes([7]) * (2 * BUFFER)
 
 
-def execute(kind: str, tests: list, vectors: tuple, states: Any) -> list:
-    """The states after their tests on the processor, up to the first that faults."""
-    with tempfile.TemporaryDirectory() as d:
-        c, s, exe, before, after = (os.path.join(d, n) for n in ("a.c", "b.s", "a", "before", "after"))
-        for path, text in ((c, C % CALLS[kind]), (s, assembly(kind, tests, vectors))):
-            with open(path, "w") as f:
-                f.write(text)
-        with open(before, "wb") as f:
-            f.writelines(states)
-        subprocess.run(TOOLS[kind][0] + ["-O1", "-ffreestanding", "-nostdlib", "-static", "-fno-stack-protector", "-o",
-                                         exe, c, s], check=True)
-        with open(before, "rb") as f, open(after, "wb+") as g:
-            subprocess.run(["qemu-aarch64"] * (kind == "aarch64") + [exe], stdin=f, stdout=g, check=False)
-            g.seek(0)
-            return [x for x in iter(lambda: g.read(SIZE), b"")]
-
-
 class Run(NamedTuple):
     """A run of a test: its number, one state or two, the places of secrets, and 1 if memory is at an odd address."""
 
@@ -357,10 +306,16 @@ class Run(NamedTuple):
     places: set
     odd: int
 
-    def inputs(self) -> Iterator:
-        """The states as the program of the tests reads them."""
+    def execute(self, hostile: Hostile, base: int) -> Iterator:
+        """The states after the test, with the memory at a base register."""
         for data in self.states:
-            yield data[:LAST] + struct.pack("<Q", 2 * self.test + self.odd) + data[VECTORS:]
+            hostile.start(bytes(JUNK), 0, 0)
+            hostile.place(data)
+            address = hostile.address(MEMORY + BUFFER + self.odd)
+            for at in 8 * base, LAST:
+                hostile.write(at, struct.pack("<Q", address))
+            hostile.call("t%d" % self.test, [hostile.address(0)])
+            yield hostile.memory
 
 
 def runs_of(program: Program, user: str, tests: list, rounds: int, rng: Any) -> Iterator:
@@ -409,14 +364,15 @@ def check(path: str, user: str, rounds: int, other: str = "") -> tuple:
     extra = [*EXTRA[program.kind] * (user == "W"), *pairs(program.kind, tests, rng)] if not other else []
     first, tests = len(tests), tests + extra
     runs = list(runs_of(program, user, tests, rounds, rng))
-    after_all = iter(execute(program.kind, tests, vectors_of(path), (x for r in runs for x in r.inputs())))
+    hostile = Hostile(path, assembly(program.kind, tests, vectors_of(path)))
     done: dict = {}                    # the tests that ran, each with whether the model has known all of a run
     for n, r in enumerate(runs):
         if n % 500 == 0:
             T.reset()
         text, base = tests[r.test]
-        after = list(itertools.islice(after_all, len(r.states)))
-        if len(after) < len(r.states):
+        try:
+            after = list(r.execute(hostile, base))
+        except Crash:
             return "not ok", "%s: the processor faults" % text, set()
         must = r.test < first and (user == "T" or forms.form(program.kind, text) in exact)
         try:

@@ -1,34 +1,30 @@
 """Runs what was proved. For each path of each case of a call, Z3 gives inputs, and the text runs on them: it must
 return and write what is specified, for ARM in qemu. Its C library is hostile.S, which overwrites all that the calling
 convention allows: with zeros, with ones, and with other bytes. Arguments that are only read are also the same, or
-overlap; on ARM pointers have a tag; and the constants are also linked in another order."""
+overlap; on ARM pointers have a tag; and the constants are also linked in another order. Also tests the specification
+over numbers: its digests must be those of hashlib."""
 
 import functools
-import os
+import hashlib
 import random
-import re
-import struct
-import subprocess
-import tempfile
 from types import SimpleNamespace
 from typing import Any, Callable, Iterator, NamedTuple, cast
 
 import call_cases
 import call_specification as S
-import check_specification as C
 import facts
 import program as programs
+import rfc7693 as R
 import symbolic
 import terms as T
 import xof_specification as X
 from call_cases import COUNTS, MOST, REFUSED
-from check_specification import LONGEST, UnusableNumbers, value
+from hostile import JUNK, Crash, Hostile, UnusableNumbers
+from whole_calls import Terms
 
+LONGEST = 2048                         # bytes of an argument that is made
 TEXTS = [path for path in programs.functions.FILES if path.endswith(".s")]
-SOURCE = os.path.join(os.path.dirname(os.path.abspath(__file__)), "hostile.S")
-# Of the block of hostile.S: its start, the places of the memory and of the stack below, and its size.
-HEADER, ARGUMENTS, ARENA, BELOW, SIZE = "<QQQQQ24x12Q96x", 12, 2304, 10496, 26880
-JUNK, WINDOW = 2048, 8                 # bytes that overwrite; and of a key that must not be in the stack below
+WINDOW = 8                             # bytes of a key that must not be in the stack below
 LIMIT, BLOCKS = 200, 5                 # of the numbers that Z3 gives for a path, if it can; and of blocks
 TAG = 0xb4 << 56                       # of pointers, which a processor for ARM ignores
 FLIPS = 3                              # bits that are changed in what is compared
@@ -36,75 +32,41 @@ SPARE = 8                              # bytes around each argument, which no ca
 SORTED = "-Wl,--sort-section=alignment"        # links constants in another order
 
 
-class Crash(Exception):
-    """The program has ended."""
+def value(n: Any) -> int:
+    """A number, which may be a term that is one."""
+    return n.args if isinstance(n, T.Term) else n
 
 
-class Hostile:
-    """A program of a text and hostile.S, whose functions can be called."""
+class Numbers(Terms):
+    """The operations of call_specification.py over numbers."""
 
-    def __init__(self, folder: str, path: str, text: str, *options: str) -> None:
-        compiler, prefix, _ = programs.TOOLS[programs.functions.architecture(path)]
-        s, self.exe = (os.path.join(folder, "a" + suffix) for suffix in (".s", "".join(options)[-9:]))
-        with open(s, "w") as f:
-            f.write(text)
-        subprocess.run(compiler + ["-nostdlib", "-static", "-no-pie", "-o", self.exe, s, SOURCE, *options], check=True)
-        names = subprocess.run([prefix + "nm", self.exe], check=True, stdout=subprocess.PIPE, text=True).stdout
-        self.addresses = {programs.without_version(m[2]): int(m[1], 16) for m in re.finditer(
-            r"^(\w+) \w (.*)$", names, re.M)}
-        self.is_arm, self.process = bool(prefix), cast(Any, None)
-        with open("/proc/cpuinfo") as f:
-            self.masks = int("avx512bw" in f.read())
-        self.start(bytes(JUNK), 0, 0)
+    def are_equal(self, x: list, y: list) -> int:
+        return int(x == y)
 
-    def start(self, junk: bytes, leaves: int, tag: int) -> None:
-        """Begins a call with no memory yet."""
-        self.junk, self.leaves, self.tag, self.memory = junk, leaves, tag, b""
+    def compress(self, kind: R.Kind, chain: list, block: list, count: Any, last: int, node: int) -> list:
+        return R.compress(kind, chain, block, value(count), last, node)
 
-    def place(self, data: bytes) -> int:
-        """Where some bytes are in the memory of the call."""
-        at = len(self.memory) + -len(self.memory) % 8
-        self.memory = self.memory.ljust(at, b"\0") + data
-        if ARENA + len(self.memory) > BELOW:
+    def compress_all(self, kind: R.Kind, chain: list, data: Any, start: Any, k: Any, count: Any) -> list:
+        if value(k) > LONGEST:
             raise UnusableNumbers
-        return at
-
-    def write(self, at: int, data: bytes) -> None:
-        self.memory = self.memory[:at] + data + self.memory[at + len(data):]
-
-    def address(self, at: int) -> int:
-        return self.addresses["block"] + ARENA + at | self.tag
-
-    def call(self, name: str, numbers: list) -> int:
-        """The result of a function."""
-        if self.process is None:
-            self.process = subprocess.Popen(["qemu-aarch64"] * self.is_arm + [self.exe], stdin=subprocess.PIPE,
-                                            stdout=subprocess.PIPE, stderr=subprocess.DEVNULL)
-        header = struct.pack(HEADER, self.addresses[name], self.masks, self.leaves, 0, 0,
-                             *numbers + [0] * (ARGUMENTS - len(numbers)))
-        try:
-            self.process.stdin.write((header + self.junk + self.memory).ljust(SIZE, b"\0"))
-            self.process.stdin.flush()
-            found = self.process.stdout.read(SIZE)
-        except BrokenPipeError:
-            found = b""
-        if len(found) < SIZE:
-            self.close()
-            raise Crash
-        _, _, _, result, is_other, *_ = struct.unpack_from(HEADER, found)
-        if is_other:
-            raise T.IsWrong("a register, the stack pointer or the direction is not as before")
-        self.memory, self.below = found[ARENA:ARENA + len(self.memory)], found[BELOW:]
-        return result
-
-    def close(self) -> None:
-        if self.process:
-            self.process.kill()
-            self.process.communicate()
-            self.process = None
+        return R.compress_all(kind, chain, data, value(start), value(k), value(count))
 
 
-class Placed(C.Memory):
+A: Any = Numbers(cast(Any, None), SimpleNamespace(
+    path_facts=facts.Facts(), settled=lambda t: t, size_of=lambda t: 8, bytes_of=T.split))
+
+
+class Memory:
+    """Bytes of an argument. Those behind the end are 0, where a specification does not use what it reads."""
+
+    def __init__(self, data: bytes) -> None:
+        self.data = data
+
+    def __call__(self, j: Any) -> int:
+        return self.data[value(j)] if value(j) < len(self.data) else 0
+
+
+class Placed(Memory):
     """An argument in the memory of a call, with other bytes around it: at a place of its own, or in another."""
 
     is_null = False
@@ -218,17 +180,19 @@ class Ran(call_cases.Case):
         """What a function does otherwise than the specification says."""
         tag = self.memories.get("tag")
         if tag and 0 < len(tag.data) == value(self.state.output_size):     # it is right, or has one wrong bit
-            right = S.digest(C.A, self.kind, self.state)[:len(tag.data)]
+            right = S.digest(A, self.kind, self.state)[:len(tag.data)]
             right[self.rng.randrange(len(right))] ^= self.rng.choice((0, 0, 1, 128))
             self.hostile.write(tag.at, bytes(right))
             tag.data = bytes(right)
-        result, state, out = expected(C.A)
+        result, state, out = expected(A)
         if self.is_long and not self.is_refused:
             raise UnusableNumbers
         words = [x.address() if isinstance(x, Placed) else int.from_bytes(bytes(
             b if isinstance(b, int) else self.rng.randrange(256) for b in T.split(x)), "little")
             for x in self.arguments]
         found = self.hostile.call(name, words) & (1 << (64 if name.endswith(COUNTS) else 32)) - 1
+        if self.hostile.is_other:
+            raise T.IsWrong("a register, the stack pointer or the direction is not as before")
         if callable(result):           # what a comparison returns
             is_same = int(found == 0)
             result = result(SimpleNamespace(compared_bytes=(is_same, is_same)))
@@ -246,7 +210,7 @@ class Ran(call_cases.Case):
 def read(case: Ran, n: T.Term, state: Callable, position: T.Term) -> Callable:
     """The bytes of a read, in place of those that loops.py compares."""
     def data(_: Any) -> bytes:
-        blocks, w = functools.cache(X.stream(C.A, case.kind, state(C.A), case.is_known)), case.kind.w
+        blocks, w = functools.cache(X.stream(A, case.kind, state(A), case.is_known)), case.kind.w
         return bytes(blocks(k // w)[k % w] for k in range(value(position), value(position) + value(n)))
     return data
 
@@ -328,13 +292,8 @@ class Paths:
 
     def run(self, path: str, text: str) -> str | None:
         """What a text does otherwise on the paths than is specified, or None."""
-        with tempfile.TemporaryDirectory() as folder:
-            both = [Hostile(folder, path, text, *options) for options in ((), (SORTED,))]
-            try:
-                return next(filter(None, (self.on_path(both, *found) for found in self.examples())), None)
-            finally:
-                for hostile in both:
-                    hostile.close()
+        both = [Hostile(path, text, *options) for options in ((), (SORTED,))]
+        return next(filter(None, (self.on_path(both, *found) for found in self.examples())), None)
 
     def on_path(self, both: list, case: Any, examples: list) -> str | None:
         """The same of one path."""
@@ -371,3 +330,43 @@ def sees(row: Any) -> tuple:
     found = Paths(programs.read(row.path), family, export, call_cases.some(family))
     why = found.run(row.path, row.edit(programs.source(row.path)))
     return "ok" if why else "not ok", why or "%d calls see no difference" % found.ran
+
+
+def absorbed(kind: R.Kind, s: Any, data: bytes) -> Any:
+    """The state after the update that the length of the data calls for."""
+    pending, buffer = value(s.pending_length), Memory(data)
+    s = s.but(pending_length=pending)
+    if pending + len(data) <= kind.block:
+        return S.update_few(A, kind, s, buffer, len(data))
+    k, rest = divmod(len(data) - -pending % kind.block - 1, kind.block)
+    return S.update_many(A, kind, s, buffer, k, rest + 1)
+
+
+def digests(rng: random.Random, kind: R.Kind) -> tuple:
+    """The digest of a message that is absorbed in random pieces, under random parameters, and that of hashlib."""
+    key, salt, persona = (rng.randbytes(rng.choice((0, rng.randrange(n + 1), n)))
+                          for n in (kind.w, kind.w // 4, kind.w // 4))
+    size, node = rng.randrange(1, kind.w + 1), rng.randrange(2)
+    tree = [rng.randrange(256), rng.randrange(1, 256), rng.getrandbits(32),
+            rng.getrandbits(64 if kind.w == 64 else 48), rng.randrange(256), rng.randrange(kind.w + 1)]
+    texts: Any = [x for text in (key, salt, persona) for x in (Memory(text), len(text))]
+    s, message = S.init(A, kind, size, *(texts + [tree])), b""
+    for _ in range(rng.randrange(4)):
+        near = rng.randrange(4) * kind.block + rng.choice((-1, 0, 1, rng.randrange(64)))
+        piece = rng.randbytes(max(0, near))
+        s, message = absorbed(kind, s, piece), message + piece
+    names = ("fanout", "depth", "leaf_size", "node_offset", "node_depth", "inner_size")
+    wanted = getattr(hashlib, kind.name)(message, digest_size=size, key=key, salt=salt, person=persona,
+                                         last_node=bool(node), **dict(zip(names, tree)))
+    return bytes(S.digest(A, kind, S.set_last_node(s, bool(node)))[:size]), wanted.digest()
+
+
+def check_digests(count: int) -> tuple:
+    """Whether the specification agrees with hashlib: a verdict, and what was tried."""
+    rng = random.Random(5)
+    for kind in [R.BLAKE2B, R.BLAKE2S] * count:
+        T.reset()
+        found, wanted = digests(rng, kind)
+        if found != wanted:
+            return "not ok", "%s: the digest is not that of hashlib" % kind.name
+    return "ok", "%d digests" % (2 * count)

@@ -85,7 +85,7 @@ def model(text: str, data: bytes) -> bytes:
     base = T.var(32, "memory", T.PUBLIC)
     m = Exact({base: Cells(0, SIZE, lambda k: data[k])}, wasm.Wasm, (16, 0))
     m.stack, m.globals = T.var(32, "sp", T.PUBLIC), [[0] * 4]
-    cpu, at = wasm.Wasm(m), lambda n: T.add(32, (1, base), (1, T.const(32, n)))
+    cpu, at = wasm.Wasm(m), lambda n: base + n
     for k, kind in enumerate(operands):
         cpu.push(list(data[16 * k:16 * k + wasm.SIZES[kind]]))
     if ".load" in text or ".store" in text:
@@ -93,7 +93,7 @@ def model(text: str, data: bytes) -> bytes:
     cpu.follow(wasm.Instruction(0, text))
     if result is not None:
         m.store(at(RESULT), cpu.pop())
-    return bytes(m.memory.get((base, k), b) for k, b in enumerate(data))
+    return bytes(m.left(base, len(data)))
 
 
 def chosen(path: str, rng: Any, count: int) -> tuple:

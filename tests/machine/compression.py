@@ -8,7 +8,7 @@ import rfc7693 as R
 import terms as T
 from facts import Facts
 from loops import Straight
-from machine import Cells, image, joined, junk
+from machine import Cells, joined, junk
 from path_values import need_same
 from program import Program
 from symbolic import Exact, Undecided, fresh
@@ -30,22 +30,18 @@ class Call:
         public = lambda what: self.variable(64, what, T.PUBLIC)
         secret = lambda what, count: [[self.variable(w, "%s%d.%d" % (what, j, k), T.SECRET)
                                        for k in range(count)] for j in range(lanes)]
-        self.sp, self.h, self.counter, self.back = map(public, ("sp", "h", "counter", "return address"))
+        self.h, self.counter = map(public, ("h", "counter"))
         self.words, self.chain, self.message = secret("h", 8), secret("H", 8), secret("m", 16)
         self.blocks = [public("block%d" % j) for j in range(lanes)]
         self.lengths = [public("length%d" % j) for j in range(lanes)]
-        self.regions = {
-            self.pointer(self.sp): self.stack(),
-            self.pointer(self.h): Cells(0, 8 * n * lanes, self.rows(self.words).__getitem__),
-        }
-        if program.kind != "wasm":
-            self.regions[image()] = Cells(0, 1 << 32, program.constant, False, (4096, 0))
+        rows = Cells(0, 8 * n * lanes, self.rows(self.words).__getitem__)
+        self.regions = {self.pointer(self.h): rows, **({} if program.kind == "wasm" else program.memory())}
         self.cpu: Any = program.model.Model    # what executes instructions over values
-        self.machine = Exact(self.regions, self.cpu, self.stack().alignment, known)
-        arguments = self.arguments()
+        self.machine = Exact(self.regions, self.cpu, (16, self.cpu.BACK), known)
+        arguments = [self.h] + self.arguments()
         self.at_block(T.const(64, 0))
         signature = [program.signatures[name]] if program.kind == "wasm" else []
-        self.cpu(self.machine).start(self.sp, self.back, [self.h] + arguments, *signature)
+        self.cpu(self.machine).start(arguments, STACK, lambda: fresh("stack", T.JUNK)[0], *signature)
         self.entry = self.cpu(self.machine).at_entry()
 
     @staticmethod
@@ -59,13 +55,6 @@ class Call:
     def pointer(self, t: T.Term) -> T.Term:
         """An address as the program's memory has it: in a memory of 32 bits, its low half."""
         return T.word(T.split(t)[:self.program.width // 8])
-
-    def stack(self) -> Cells:
-        """The function's part of the stack. At the entry, sp + 8 is a multiple of 16 on x86-64, where the return
-        address lies above, and sp is one elsewhere."""
-        back = T.split(self.back) if self.program.kind == "x86_64" else []
-        initial = lambda k: back[k] if k >= 0 else fresh("stack", T.JUNK)[0]
-        return Cells(-STACK, len(back), initial, True, (16, len(back)))
 
     def arguments(self) -> list:
         """The arguments after the chaining words: of one message the block, the counter and the flags, whose higher
@@ -106,7 +95,7 @@ class Call:
             size = self.kind.bytes * len(words)
             self.regions.pop(self.pointer(p), None)
             if i is not None:
-                base = self.pointer(T.add(64, (1, p), (size, i)))
+                base = self.pointer(p + size * i)
                 self.regions[base] = Cells(0, size, joined(map(T.split, words)).__getitem__, False)
 
     def count(self) -> T.Term:
@@ -115,11 +104,11 @@ class Call:
 
     def ends(self, left: T.Term) -> list:
         """The terms one of which has to be 0 exactly if no block is left."""
-        return [left, T.add(64, (-1, left))]
+        return [left, -left]
 
     def counted(self, j: int, i: T.Term) -> T.Term:
         """The counter of message j at block i."""
-        return T.add(64, (1, self.counters[j] if self.lanes > 1 else self.counter), (self.kind.block, i))
+        return (self.counters[j] if self.lanes > 1 else self.counter) + self.kind.block * i
 
     def masks(self, j: int) -> list:
         """The words that the flags of message j are xored in as: of ones, if they are on."""
@@ -166,10 +155,10 @@ class StripesCall(Call):
     def ends(self, left: T.Term) -> list:
         """The bytes of the blocks that are left may be counted too: they are fewer than 2^64."""
         size = self.kind.block
-        return super().ends(left) + [T.add(64, (n, left)) for n in (size, -size)]
+        return super().ends(left) + [n * left for n in (size, -size)]
 
     def counted(self, j: int, i: T.Term) -> T.Term:
-        return T.add(64, (1, self.counter), (self.kind.block, i), (1, T.const(64, self.kind.block)))
+        return self.counter + self.kind.block * i + self.kind.block
 
     def masks(self, j: int) -> list:
         return [T.const(self.kind.w, 0)] * 2
@@ -201,7 +190,7 @@ class Runner:
             if pc not in self.code:
                 raise CannotShow("a jump leaves the function")
             self.at = self.code[pc]
-            pc = self.cpu(machine).follow(self.at)
+            (_, pc), = self.cpu(machine).follow(self.at)
             self.deepest = min(self.deepest, machine.deepest)
             self.visited.add(self.at.address)
             self.count += 1
@@ -256,36 +245,21 @@ class Loop(Straight):
     def show(self) -> None:
         """The proof of a call with some blocks."""
         call, i = self.call, T.var(64, "i", T.PUBLIC)
-        self.propose_all(self.iterate(self.start.copy())[0].cells())
+        second = self.iterate(self.start.copy())[0].cells()
+        if any(kind == "memory" and at is not call.machine.stack for kind, at, _ in self.changed(second)):
+            raise IsWrong("the loop writes outside of the stack")
+        self.propose_chain(second, call.rows(call.words), call.expected(call.words, T.const(64, 0)))
         call.at_block(i)
-        wanted = call.expected(call.chain, i)
-        general = self.machine(i, self.chained(call.rows(call.chain)))
+        wanted, general = call.expected(call.chain, i), self.at_head(i, call.rows(call.chain))
         general.regions = call.regions
-        state = {**general.cells(), **self.grown(i, 1), **self.chained(wanted)}
         after, left = self.iterate(general)
-        self.need(after, state)
-        rest = T.add(64, (1, self.count), (-1, i), (-1, T.const(64, 1)))
+        self.need(after, self.at_head(i + 1, wanted).cells())
+        rest = self.count - i - 1
         if left not in call.ends(rest):
             raise IsWrong("the loop ends if %r is 0, instead of %r" % (left, rest))
         self.calls.run(after, self.last.next)
         call.check_return(after, wanted)
         self.calls.paths += 4
-
-    def propose_all(self, second: dict) -> None:
-        """What an iteration changes: words that grow, bytes of chaining words, and the rest."""
-        call, words = self.call, self.call.words
-        places = {pair: k for k, pair in enumerate(zip(call.rows(words), call.expected(words, T.const(64, 0))))}
-        changed = self.changed(second)
-        if any(kind == "memory" and at is not call.pointer(call.sp) for kind, at, _ in changed):
-            raise IsWrong("the loop writes outside of the stack")
-        pairs = {c: (self.at(self.first, c), self.at(second, c))
-                 for c in self.propose(changed, self.constant_step(second))}
-        self.chain = {c: places[pair] for c, pair in pairs.items() if pair in places}
-        self.rest = set(pairs) - set(self.chain)
-
-    def chained(self, data: list) -> dict:
-        """These bytes of chaining words, at their places."""
-        return {c: data[k] for c, k in self.chain.items()}
 
 
 def show(program: Program, name: str, kind: R.Kind, lanes: int) -> tuple:

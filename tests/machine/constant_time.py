@@ -5,15 +5,17 @@ import math
 import os
 import re
 from collections import Counter
+from functools import partial
 from typing import Any, Iterator
 
 import functions
 import program as programs
 import terms as T
-from machine import AFTER, SECRET, Aligned, Flags, image, joined, need_public, total
+from machine import AFTER, Flags, need_public
 from rfc7693 import Kind
 from taint import SECRET_BYTE, TOP, UNKNOWN_BYTE, Cells, Taint, is_secret
 from terms import CannotShow, IsWrong
+from walk import Walker
 
 STACK = 65536
 ROUNDS = 20                            # of a loop, which are unrolled
@@ -48,7 +50,6 @@ FINALIZING, ANSWERING = (tuple(name % family for family in FAMILIES)
                          for name in (functions.FINALIZE, functions.IS_DIGEST_OF))
 NOT_COMPUTED = ("_many", "_update_many", "_save", "_load")  # of these whole_calls.py does not show what they write
 OF_ARRAYS = ("_update_many",)                   # whose secrets are not followed: they have an array of states
-OF_C = programs.OF_C
 NOT_FOLLOWED = ("dist/x86_64/vulfsjor-v4.s",)   # masks of AVX-512 are not followed
 # What is not shown, as pairs of a file and a function: pointers have bounds that are too hard for the ranges.
 NOT_SHOWN = {("dist/x86_64/vulfsjor-v3.s", "vulfsjor_ffi_blake2bp")}
@@ -106,7 +107,7 @@ def argument(m: Taint, kind: str, at: int, family: str, has_key: bool) -> list:
             """Bytes of the table, which has pairs of an address and a length, from a place on."""
             if place[2] % 16:
                 raise CannotShow("the place in the table of messages is not known")
-            pair = T.split(total(text, n.new(64, "at"))) + T.split(n.new(64, "length"))
+            pair = T.split(text + n.new(64, "at")) + T.split(n.new(64, "length"))
             return [pair[(place[0] + k) % 16] for k in range(size)]
         m.regions[word].table = entry
     if kind == KEY:
@@ -116,26 +117,22 @@ def argument(m: Taint, kind: str, at: int, family: str, has_key: bool) -> list:
 
 def called(program: programs.Program, kinds: tuple, family: str, alignment: tuple, has_key: bool) -> Taint:
     """The machine at the entry of an exported function."""
-    cpu: Any = program.model.Model
     words: list = []
-    m = Taint({image(): Cells(0, 1 << 32, program.constant, False)}, cpu, alignment, BLOCKS.get(family, 128),
-              LONGEST.get(family, 0))
+    m = Taint(program.memory(), program.model.Model, alignment, BLOCKS.get(family, 128), LONGEST.get(family, 0))
     for kind in kinds:
         words += argument(m, kind, len(words), family, has_key)
-    sp, back = (T.var(64, name, T.PUBLIC) for name in ("sp", "return address"))
-    above = joined(map(T.split, [back] * (program.kind == "x86_64") + words[len(cpu.ARGUMENTS):]))
-    m.regions[sp] = Cells(-STACK, len(above), lambda k: SECRET_BYTE if k < 0 else above[k])
-    cpu(m).start(sp, back, words)
+    m.processor(m).start(words, STACK, lambda: SECRET_BYTE)
     return m
 
 
 class Walk:
     """The code of a function that is followed: the state at each place, and where all paths meet."""
 
-    def __init__(self, name: str, path: str, code: list, cpu: Any, machine: Taint) -> None:
-        self.name, self.path, self.cpu, self.entry = name, path, cpu, cpu(machine).at_entry()
+    def __init__(self, path: str, code: list, cpu: Any, machine: Taint) -> None:
+        self.path, self.entry = path, cpu(machine).at_entry()
         self.code = {i.address: i for i in code}
-        self.starts = {i.target for i in code if i.target is not None}         # of its blocks
+        # Where its blocks start.
+        self.starts = {pc for i in code if i.target is not None and not i.is_call for pc in (i.target, i.next)}
         # The head of a loop -> its last address.
         self.loops = {i.target: i.address for i in code if i.target is not None and i.target <= i.address}
         self.states: dict = {}
@@ -161,101 +158,64 @@ class Walk:
             return
         self.waiting.add(key)
 
-    def finish(self, m: Any, first: int = 0) -> None:
-        self.cpu(m).check_return(self.entry, first)
-        m.forget_below()
+    def finish(self, m: Any) -> None:
         if self.end is None:
             self.end = m
         else:
             self.end.join(m, self.path + ".end.", 0)
 
 
-class Analysis:
-    """Follows calls through the functions of a file."""
+class Analysis(Walker):
+    """Follows secrets through calls."""
+
+    comparing, may_trap = ANSWERS, True
 
     def __init__(self, program: programs.Program, exported: str) -> None:
-        self.program, self.exported, self.scrubs = program, exported, functions.scrubs(program)
-        self.cpu: Any = program.model.Model    # what executes instructions over values
-        self.listed = {functions.in_file(program.path, entry[0]): entry for entry in functions.FILES[program.path]}
-        self.codes: dict = {}
+        super().__init__(program, exported)
         self.reached: set = set()
         self.entered: set = set()
-        self.at: Any = None
 
     def run(self, name: str, machine: Any) -> Any:
         """The state after a call of a function, where all paths meet."""
-        if name not in self.codes:
-            self.codes[name] = self.program.code(name, "T")
         machine.rounds, machine.undecided, machine.bounds = (), frozenset(), frozenset()
-        walk = Walk(name, machine.where, self.codes[name], self.cpu, machine)
+        walk = Walk(machine.where, self.program.code(name, "T"), self.cpu, machine)
         while walk.waiting:
             key = min(walk.waiting)
             walk.waiting.remove(key)
-            m, pc = walk.states[key].copy(), key[0]
-            while pc is not None:
+            waiting = [(walk.states[key].copy(), key[0])]
+            while waiting:
+                m, pc = waiting.pop()
                 if pc not in walk.code:
                     raise IsWrong("%s goes on behind its end" % name)
-                i = self.at = walk.code[pc]
                 m.where = "%s/%x%s." % (walk.path, pc, in_round(m))
                 self.reached.add(pc)
-                pc = self.follow(walk, m, i)
-                if pc in walk.starts:
-                    walk.arrive(pc, m, i.address)
-                    break
+                for n, after in self.follow(name, m, walk.code[pc], walk.code, walk.entry):
+                    if after is None:
+                        walk.finish(n)
+                    elif after in walk.starts:
+                        walk.arrive(after, n, pc)
+                    else:
+                        waiting.append((n, after))
         if walk.end is None:
             raise CannotShow("%s does not return" % name)
         return walk.end
 
-    def follow(self, walk: Walk, m: Any, i: Any) -> int | None:
-        """Executes an instruction. Returns the address of the next, if it is the only one."""
-        cpu = self.cpu(m)
-        if i.is_call:
-            link = cpu.enter()
-            self.call(m, i)
-            cpu.leave(link)
-            m.forget_below()
-            return i.next
-        if i.is_return:
-            walk.finish(m)
-        elif i.target is None and not i.is_trap:               # at a trap, the program stops
-            return cpu.follow(i)
-        elif not i.is_trap:
-            self.branch(walk, m, i)
-        return None
+    def answered(self, m: Any, i: Any) -> list:
+        """The answer is public."""
+        m.flags = Flags("other", *[m.new(64, "answer")] * 3)
+        return self.cpu(m).follow(i)
 
-    def branch(self, walk: Walk, m: Any, i: Any) -> None:
-        """A branch or a jump, which may be a call in place of a return."""
-        cpu, code = self.cpu(m), walk.code
-        if not i.is_jump and m.flags.kind == SECRET and walk.name.endswith(ANSWERS) and all(
-                cpu.only_returns(code, pc) for pc in (i.target, i.next)):
-            m.flags = Flags("other", *[m.new(64, "answer")] * 3)
-        for n, jumps in [(m, True)] if i.is_jump else list(m.outcomes(cpu.condition(i), i.address)):
-            pc = i.target if jumps else i.next
-            if pc in code:
-                walk.arrive(pc, n, i.address)
-            else:
-                self.cpu(n).check_return(walk.entry)
-                self.call(n, i)
-                walk.finish(n, 1)
+    def compress(self, m: Any, name: str) -> list:
+        """A call of a function whose code is not followed: it compresses, or is a scrub_stack."""
+        if name in self.listed:
+            compress(m, [self.cpu(m).argument(k) for k in range(5)], *self.listed[name])
+        self.cpu(m).clobber(AFTER)
+        return [m]
 
-    def call(self, m: Any, i: Any) -> None:
-        """A call of another function, whose return address is in its place."""
-        name, cpu = self.program.target(i, OF_C), self.cpu(m)
-        to, source, length, *rest = (cpu.argument(k) for k in range(5))
-        if name == "memset":
-            m.fill_memory(to, T.split(source)[0], length)
-        elif name in OF_C:
-            m.copy_memory(to, source, length)
-        elif name in self.listed:
-            compress(m, [to, source, length, *rest], *self.listed[name])
-        elif name not in self.scrubs:
-            self.enter(m, name, i)
-            return
-        cpu.clobber(AFTER)
-
-    def enter(self, m: Any, name: str, i: Any) -> None:
-        """A call of a function whose code is followed."""
-        kept = {part: getattr(m, part) for part in ("rounds", "undecided", "bounds")}
+    def run_inner(self, m: Any, name: str) -> list:
+        if name in self.scrubs:
+            return self.compress(m, name)
+        i, kept = self.at, {part: getattr(m, part) for part in ("rounds", "undecided", "bounds")}
         m.__dict__.update({**self.run(name, m).__dict__, **kept})
         self.at = i
         self.entered.add(name)
@@ -267,6 +227,7 @@ class Analysis:
             self.cpu(m).set_answer([(m.new(8, "answer", (0, 1, 1)), 0)])
         elif name in FINALIZING:
             need_zeros(m, next(b for b in m.regions if b.args == "state0"))
+        return [m]
 
 
 def in_round(m: Any) -> str:
@@ -313,18 +274,12 @@ def exports(program: programs.Program) -> Iterator:
 def show(program: programs.Program, name: str, kinds: tuple, family: str) -> Analysis:
     """Follows a call, or raises Refused. Returns the analysis."""
     analysis = Analysis(program, name)
-    entry = 16, 8 if program.kind == "x86_64" else 0
-    waiting = [(entry, has_key) for has_key in ((False, True) if KEY in kinds else (False,))]
-    while waiting:
+
+    def follow_from(alignment: tuple, has_key: bool) -> None:
         T.reset()
-        (size, rest), has_key = waiting.pop()
-        try:
-            check(analysis.run(name, called(program, kinds, family, (size, rest), has_key)), name)
-        except Aligned as e:
-            waiting += [((e.need, k), has_key) for k in range(rest, e.need, size)]
-        except T.Refused as e:
-            at = " ".join(analysis.at.text.split()) if analysis.at else "the entry"
-            raise type(e)("%s: at %s: %s" % (name, at, e))
+        check(analysis.run(name, called(program, kinds, family, alignment, has_key)), name)
+    for has_key in (False, True)[:1 + (KEY in kinds)]:
+        analysis.at_alignments(lambda: name, partial(follow_from, has_key=has_key))
     missed = [n for end, n in CALLED.items() if name == "vulfsjor_ffi_%s%s" % (family, end)
               and family in FAMILIES and n % family not in analysis.entered]
     if missed:
@@ -356,7 +311,7 @@ def check(m: Taint, name: str) -> None:
         if name.endswith("_wipe"):
             need_zeros(m, base)
         for k in range(region.high):
-            if is_secret(m.byte(base, k, region)) and not is_secret(region.initial(k)):
+            if is_secret(m.byte(base, k)) and not is_secret(region.initial(k)):
                 raise IsWrong("byte %d of %s, which is public, depends on a secret" % (k, base.args))
     if not name.endswith(ANSWERS + ("_wipe",)):
         need_public(T.word(m.processor(m).answer()[:4]), "the result")
@@ -364,7 +319,6 @@ def check(m: Taint, name: str) -> None:
 
 def need_zeros(m: Any, state: T.Term) -> None:
     """Refuses a state of which a byte may not be zero."""
-    region = m.regions[state]
-    for k in range(region.high):
-        if m.byte(state, k, region) != 0:
+    for k, b in enumerate(m.left(state, m.regions[state].high)):
+        if b != 0:
             raise IsWrong("byte %d of the state is not overwritten" % k)

@@ -1,5 +1,4 @@
-"""What the tool reads for ELF: the texts of dist/, which are for every object format, by macros of the assembler, and
-object files of 64 bits."""
+"""What the tool reads for ELF: the texts of dist/, whose macros are for every object format, and object files."""
 
 import functools
 import os

@@ -241,7 +241,7 @@ class Facts:
 
     def apart(self, a: T.Term, n: T.Term, b: T.Term, m: T.Term) -> "Facts":
         """With the fact that n bytes from a on and m bytes from b on are apart."""
-        x, y = (T.add(64, (1, p), (-1, q)) for p, q in ((a, b), (b, a)))
+        x, y = (p - q for p, q in ((a, b), (b, a)))
         claim = lambda of, either: [either(of(n) == 0, of(m) == 0, of(x) >= of(m)),
                                     either(of(n) == 0, of(m) == 0, of(y) >= of(n))]
         return Facts(claim, (x, y, n, m), self, "apart", x, y, n, m)

@@ -3,9 +3,9 @@ instructions. The models refuse an instruction of any other form.
 
 A form is a name, and for each operand its kind and its bytes: g8 is a general register, x, y, z or k a vector or a
 mask, m8 memory, m8* a word that is broadcast, n a number. `=` says that the last two operands are the same register. In
-forms.txt the forms are below their processor and the models that execute them: T is that of taint tracking, and W that
-of functions that compress and of whole calls. After a name, and after operands that end with a comma, are all that
-follow them there."""
+forms.txt the forms are below their processor. Those with ' are only for the model of taint tracking (T), and those with
+" only for that of functions that compress and of whole calls (W). After a name, and after operands that end with a
+comma, are all that follow them there."""
 
 import functools
 import os
@@ -16,6 +16,7 @@ import x86
 from terms import CannotShow
 
 TABLE = os.path.join(os.path.dirname(os.path.abspath(__file__)), "forms.txt")
+USERS = {"": "TW", "'": "T", '"': "W"}  # the models of a form, by its mark
 # The numbers of these are added, compared or masked as they are. Those of any other, such as a shift or a shuffle, are
 # part of its form.
 ANY_NUMBER = set("mov movabs add sub cmp and or xor test adc sbb imul push "
@@ -83,7 +84,7 @@ def known() -> frozenset:
     with open(TABLE, encoding="ascii") as f:
         for line in f:
             if not line.startswith(" "):
-                kind, users = line.split()
+                kind = line.strip()
                 continue
             for word in line.split():
                 if word.endswith(":"):
@@ -91,8 +92,9 @@ def known() -> frozenset:
                 elif word.endswith(","):
                     start = word
                 else:
-                    text = ("%s %s" % (name, start + word)).removesuffix(" -")
-                    found |= {(kind, user, text) for user in users}
+                    last = word.rstrip("'\"")
+                    text = ("%s %s" % (name, start + last)).removesuffix(" -")
+                    found |= {(kind, user, text) for user in USERS[word[len(last):]]}
     return frozenset(found)
 
 
@@ -100,19 +102,19 @@ def write(found: set) -> None:
     """Writes the table."""
     users: dict = {}
     for kind, user, each in sorted(found):
-        users.setdefault((kind, each), []).append(user)
+        users[kind, each] = users.get((kind, each), "") + user
     groups: dict = {}
     for (kind, each), letters in users.items():
         name, _, operands = each.partition(" ")
         start, comma, last = (operands or "-").rpartition(",")
-        starts = groups.setdefault((kind, "".join(letters)), {}).setdefault(name + ":", {})
-        starts.setdefault(start + comma, []).append(last)
+        mark = next(mark for mark in USERS if USERS[mark] == letters)
+        groups.setdefault(kind, {}).setdefault(name + ":", {}).setdefault(start + comma, []).append(last + mark)
     with open(TABLE, "w", encoding="ascii") as f:
-        for (kind, letters), names in sorted(groups.items()):
+        for kind, names in sorted(groups.items()):
             words = [word for name, starts in names.items() for word in [
                 name, *(w for start, lasts in sorted(starts.items()) for w in [start, *lasts] if w)]]
-            f.write("%s %s\n%s\n" % (kind, letters, textwrap.fill(
-                " ".join(words), 118, initial_indent="  ", subsequent_indent="  ", break_on_hyphens=False)))
+            f.write("%s\n%s\n" % (kind, textwrap.fill(
+                " ".join(words), 120, initial_indent="  ", subsequent_indent="  ", break_on_hyphens=False)))
 
 
 def check(kind: str, user: str, text: str) -> None:

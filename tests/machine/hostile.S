@@ -1,28 +1,18 @@
 /* A program that calls functions as the calling convention allows, and is their C library. What a function need not
    keep is overwritten before each call, and by memcpy, memmove and memset: registers, masks, flags, and the stack below.
-   check_paths.py writes a block to its input for each call, and reads one:
-     function, masks (1 if there is AVX-512), leaves (1 if a copy leaves its first bytes in vector register 0, and the
-     stack below as it is), the result, kept (0 if what belongs to the caller is as before); 12 arguments; the bytes that
-     overwrite; memory for the call; and the stack below after it.  */
-#define FUNCTION 0
+   hostile.c has the block of a call.  */
 #define MASKS 8
 #define LEAVES 16
 #define RESULT 24
-#define KEPT 32
-#define ARGUMENTS 64
-#define JUNK 256
+#define SAVED 40
+#define LINK 48
+#define ARGUMENTS 56
+#define AFTER 152
+#define JUNK 512
 #define OWN (JUNK + 1024)
-#define BELOW 10496
-#define DEEP 16384
-#define SIZE (BELOW + DEEP)
 #define FILLED 1984
-	.bss
-	.p2align 12
-	.globl	block
-block:	.zero	SIZE
-saved:	.zero	16
 	.text
-	.globl	_start, memcpy, memmove, memset
+	.globl	_start, call, memcpy, memmove, memset
 #ifdef __x86_64__
 /* The general registers but those of arguments and rsp; vectors and masks; flags but the direction.  */
 	.macro	overwrite
@@ -55,36 +45,13 @@ saved:	.zero	16
 	movq	288(%r11), %r11
 	.endm
 
-memset:	movq	%rdi, %r8
-	movl	%esi, %eax
-	movq	%rdx, %rcx
-	rep stosb
+memset:	callq	fill
 	jmp	returns
 memcpy:
 memmove:
-	movq	%rdi, %r8
-	movq	%rdx, %rcx
-	movq	%rdi, %rax
-	subq	%rsi, %rax
-	cmpq	%rdx, %rax
-	jb	1f
-	rep movsb
-	jmp	2f
-1:	leaq	-1(%rdi,%rdx), %rdi
-	leaq	-1(%rsi,%rdx), %rsi
-	std
-	rep movsb
-	cld
-2:	cmpl	$0, LEAVES+block(%rip)
-	je	returns
-	movl	$64, %ecx
-	cmpq	%rcx, %rdx
-	cmovbq	%rdx, %rcx
-	movq	%r8, %rsi
-	leaq	JUNK+block(%rip), %rdi
-	rep movsb
+	callq	copy
 returns:
-	pushq	%r8
+	pushq	%rax
 	leaq	JUNK+block(%rip), %r11
 	.irp	r, rdi,rsi,rdx,rcx,r8,r9
 	movq	512(%r11), %\r
@@ -94,19 +61,13 @@ returns:
 	popq	%rax
 	retq
 
-_start:	leaq	block(%rip), %rbx
-	movl	$SIZE, %ebp
-1:	xorl	%eax, %eax
-	xorl	%edi, %edi
-	movq	%rbx, %rsi
-	movl	%ebp, %edx
+call:	movl	%ecx, %eax
 	syscall
-	testq	%rax, %rax
-	jle	3f
-	addq	%rax, %rbx
-	subq	%rax, %rbp
-	jnz	1b
-	movq	%rsp, saved(%rip)
+	retq
+
+_start:	callq	read_block
+	subq	$512, %rsp
+	movq	%rsp, SAVED+block(%rip)
 	.irp	k, 11,10,9,8,7,6
 	pushq	ARGUMENTS+8*\k+block(%rip)
 	.endr
@@ -125,37 +86,26 @@ _start:	leaq	block(%rip), %rbx
 	callq	*block(%rip)
 	movq	%rax, RESULT+block(%rip)
 	pushfq
-	popq	%rax
+	popq	%rdi
 	cld
-	andl	$0x400, %eax
-	leaq	48(%rsp), %rcx
-	subq	saved(%rip), %rcx
-	orq	%rcx, %rax
-	leaq	OWN+block(%rip), %r11
+	leaq	AFTER+block(%rip), %r11
 	.irp	r, rbx,rbp,r12,r13,r14,r15
-	subq	(%r11), %\r
-	orq	%\r, %rax
+	movq	%\r, (%r11)
 	addq	$8, %r11
 	.endr
-	movq	%rax, KEPT+block(%rip)
-	movq	saved(%rip), %rsp
-	leaq	-48-DEEP(%rsp), %rsi
-	leaq	BELOW+block(%rip), %rdi
-	movl	$DEEP, %ecx
-	rep movsb
-	movl	$1, %eax
-	movl	$1, %edi
-	leaq	block(%rip), %rsi
-	movl	$SIZE, %edx
-	syscall
+	andl	$0x400, %edi
+	leaq	48(%rsp), %rax
+	movq	SAVED+block(%rip), %rsp
+	subq	%rsp, %rax
+	orq	%rax, %rdi
+	leaq	-48(%rsp), %rsi
+	addq	$512, %rsp
+	callq	write_block
 	jmp	_start
-3:	movl	$60, %eax
-	syscall
 #else
 /* The registers 8 to 17, vectors but the low halves of 8 to 15, and flags. Then those of arguments.  */
 	.macro	overwrite
 	adrp	x9, block
-	add	x9, x9, :lo12:block
 	ldr	x10, [x9, #LEAVES]
 	add	x9, x9, #JUNK
 	.irp	n, 0,1,2,3,4,5,6,7,16,17,18,19,20,21,22,23,24,25,26,27,28,29,30,31
@@ -180,120 +130,68 @@ _start:	leaq	block(%rip), %rbx
 	.endr
 	.endm
 
-memset:	mov	x8, x0
-	cbz	x2, 2f
-1:	subs	x2, x2, #1
-	strb	w1, [x8, x2]
-	b.ne	1b
-2:	b	returns
+	.macro	library f
+	adrp	x9, block
+	str	x30, [x9, #LINK]
+	bl	\f
+	.endm
+
+memset:	library	fill
+	b	returns
 memcpy:
 memmove:
-	mov	x8, xzr
-	sub	x9, x0, x1
-	cmp	x9, x2
-	b.lo	2f
-1:	cmp	x8, x2
-	b.eq	3f
-	ldrb	w10, [x1, x8]
-	strb	w10, [x0, x8]
-	add	x8, x8, #1
-	b	1b
-2:	cbz	x2, 3f
-	mov	x8, x2
-4:	sub	x8, x8, #1
-	ldrb	w10, [x1, x8]
-	strb	w10, [x0, x8]
-	cbnz	x8, 4b
-3:	adrp	x9, block
-	add	x9, x9, :lo12:block
-	ldr	x10, [x9, #LEAVES]
-	cmp	x2, #16
-	ccmp	x10, #0, #4, hs
-	b.eq	returns
-	ldr	q0, [x0]
-	str	q0, [x9, #JUNK]
+	library	copy
 returns:
 	overwrite
 	.irp	n, 1,2,3,4,5,6,7
 	ldr	x\n, [x9, #512+8*\n]
 	.endr
+	adrp	x9, block
+	ldr	x30, [x9, #LINK]
 	ret
 
-_start:	adrp	x19, block
-	add	x19, x19, :lo12:block
-	mov	x20, #SIZE
-1:	mov	x0, #0
-	mov	x1, x19
-	mov	x2, x20
-	mov	x8, #63
+call:	mov	x8, x3
 	svc	#0
-	cmp	x0, #0
-	b.le	3f
-	add	x19, x19, x0
-	subs	x20, x20, x0
-	b.ne	1b
-	adrp	x9, saved
-	mov	x10, sp
-	str	x10, [x9, #:lo12:saved]
+	ret
+
+_start:	bl	read_block
+	sub	sp, sp, #512
 	adrp	x9, block
-	add	x9, x9, :lo12:block
+	mov	x10, sp
+	str	x10, [x9, #SAVED]
 	ldp	x10, x11, [x9, #ARGUMENTS+64]
 	ldp	x12, x13, [x9, #ARGUMENTS+80]
 	stp	x12, x13, [sp, #-16]!
 	stp	x10, x11, [sp, #-16]!
-	.irp	n, 8,9,10,11,12,13,14,15
-	ldr	d\n, [x9, #OWN+8*\n]
-	.endr
 	add	x9, x9, #OWN
+	.irp	n, 8,9,10,11,12,13,14,15
+	ldr	d\n, [x9, #8*\n-64]
+	.endr
 	.irp	n, 19,20,21,22,23,24,25,26,27,28,29
-	ldr	x\n, [x9, #8*\n]
+	ldr	x\n, [x9, #8*\n-88]
 	.endr
 	overwrite
 	adrp	x9, block
-	add	x9, x9, :lo12:block
 	.irp	n, 0,1,2,3,4,5,6,7
 	ldr	x\n, [x9, #ARGUMENTS+8*\n]
 	.endr
 	ldr	x16, [x9]
 	blr	x16
 	adrp	x9, block
-	add	x9, x9, :lo12:block
 	str	x0, [x9, #RESULT]
-	adrp	x10, saved
-	ldr	x10, [x10, #:lo12:saved]
-	sub	x10, x10, #32
-	mov	x11, sp
-	eor	x0, x10, x11
-	mov	sp, x10
-	add	x12, x9, #OWN
-	.irp	n, 19,20,21,22,23,24,25,26,27,28,29
-	ldr	x11, [x12, #8*\n]
-	eor	x11, x11, x\n
-	orr	x0, x0, x11
-	.endr
+	add	x10, x9, #AFTER
 	.irp	n, 8,9,10,11,12,13,14,15
-	ldr	x11, [x12, #8*\n]
-	fmov	x13, d\n
-	eor	x11, x11, x13
-	orr	x0, x0, x11
+	str	d\n, [x10, #8*\n-64]
 	.endr
-	str	x0, [x9, #KEPT]
-	mov	x12, #BELOW
-	add	x12, x9, x12
-	mov	x11, #DEEP
-	sub	x10, x10, x11
-2:	subs	x11, x11, #8
-	ldr	x13, [x10, x11]
-	str	x13, [x12, x11]
-	b.ne	2b
-	add	sp, sp, #32
-	mov	x0, #1
-	mov	x1, x9
-	mov	x2, #SIZE
-	mov	x8, #64
-	svc	#0
+	.irp	n, 19,20,21,22,23,24,25,26,27,28,29
+	str	x\n, [x10, #8*\n-88]
+	.endr
+	add	x10, sp, #32
+	ldr	x11, [x9, #SAVED]
+	sub	x0, x10, x11
+	sub	x1, x11, #32
+	add	sp, x11, #512
+	bl	write_block
 	b	_start
-3:	mov	x8, #93
-	svc	#0
 #endif
 	.section .note.GNU-stack,"",%progbits

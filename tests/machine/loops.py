@@ -60,7 +60,7 @@ class Induction:
     def constant_step(self, second: dict) -> Callable:
         """By how much words have grown in the first iteration, if that is a number."""
         def step(a: T.Term, group: tuple) -> int | None:
-            n = T.add(a.w, (1, self.word(second, group)), (-1, a))
+            n = self.word(second, group) - a
             return n.args if n.op == "const" and len(group) >= 4 else None
         return step
 
@@ -69,7 +69,7 @@ class Induction:
         found: dict = {}
         for group, (a, step) in self.grows.items():
             low = T.word(T.split(i)[:a.w // 8])
-            found.update(zip(group, T.split(T.add(a.w, (1, a), (step, low), (1, T.const(a.w, step * more))))))
+            found.update(zip(group, T.split(a + step * low + step * more)))
         return found
 
     def machine(self, i: T.Term, others: dict) -> Any:
@@ -107,7 +107,18 @@ class Straight(Induction):
         compared = self.calls.cpu(ends[0]).condition(self.last) if len(ends) == 1 else None
         if compared is None or compared[0] != "!=" or compared[1].w != 64:
             raise CannotShow("a loop goes on by another condition than two words of 64 bits")
-        return ends[0], T.add(64, (1, compared[1]), (-1, compared[2]))
+        return ends[0], compared[1] - compared[2]
+
+    def propose_chain(self, second: dict, old: list, new: list) -> None:
+        """Proposes where the chaining words are that an iteration changes, which words grow, and what else changes."""
+        places = {pair: k for k, pair in enumerate(zip(old, new))}
+        pairs = {c: (self.at(self.first, c), self.at(second, c)) for c in self.changed(second)}
+        self.chain = {c: places[pair] for c, pair in pairs.items() if pair in places}
+        self.rest = self.propose(set(pairs) - set(self.chain), self.constant_step(second))
+
+    def at_head(self, i: T.Term, words: list) -> Any:
+        """The machine at the head of iteration i, with these chaining words."""
+        return self.machine(i, {c: words[k] for c, k in self.chain.items()})
 
     def need(self, after: Any, wanted: dict) -> None:
         """Refuses an iteration that leaves other bytes than the next one starts from."""
@@ -166,9 +177,9 @@ class Differences(Straight):
             raise CannotShow("no iteration is possible")
         return self.iterate(m)
 
-    def quotient(self, t: T.Term, unit: int, sign: int) -> T.Term | None:
+    def quotient(self, t: T.Term, unit: int, sign: int) -> Any:
         """A word, or its negative, as a multiple of a number: the other factor. None if it is none."""
-        constant, items = T.linear(T.add(64, (sign, t)))
+        constant, items = T.linear(sign * t)
         parts = [(signed(64, k), u) for u, k in items.items()] + [(signed(64, constant), T.const(64, 1))]
         if any(k % unit for k, _ in parts):
             return None
@@ -177,11 +188,9 @@ class Differences(Straight):
 
     def count(self, left: T.Term, then: T.Term, i: T.Term) -> T.Term:
         """The number of iterations."""
-        unit = self.unit * self.sign
-        if T.add(64, (1, left), (-unit, i)) is not then:
+        if left - self.unit * self.sign * i is not then:
             raise CannotShow("a loop of a comparison leaves %r, and %r in iteration i" % (left, then))
-        last = self.quotient(left, self.unit, self.sign)
-        return T.add(64, (1, last), (1, T.const(64, 1)))
+        return self.quotient(left, self.unit, self.sign) + 1
 
     def check(self, second: dict, m: Any, i: T.Term) -> tuple:
         """How many bytes an iteration compares, and for each byte that collects the offsets of the first iteration;
@@ -194,10 +203,10 @@ class Differences(Straight):
                 raise IsWrong("a comparison of %s" % (found[0][0],))
         for c, b in self.collects.items():
             then = {compared_bytes(x) for x in members_of(after[c]) - {b}}
-            if then != {(("a", "b"), T.add(64, (1, t), (step, i))) for t in offsets[c]}:
+            if then != {(("a", "b"), t + step * i) for t in offsets[c]}:
                 raise CannotShow("the byte %s is not as expected after an iteration" % (c,))
         collected = {c: after[c] for c in self.collects}
-        self.need(m, self.machine(T.add(64, (1, i), (1, T.const(64, 1))), collected).cells())
+        self.need(m, self.machine(i + 1, collected).cells())
         return step, offsets
 
 
@@ -221,9 +230,9 @@ def need_all(m: Any, byte: Any, n: T.Term) -> None:
             raise IsWrong("the byte at %r is not compared" % at)
         step, count = key
         found = {m.settled(t) for t in parts.pop(key)}
-        if found != {m.settled(T.add(64, (1, at), (1, T.const(64, k)))) for k in range(step)}:
+        if found != {m.settled(at + k) for k in range(step)}:
             raise IsWrong("not all bytes from %r on are compared" % at)
-        at = T.add(64, (1, at), (step, count))
+        at += step * count
     m.need("a comparison of %r bytes, not %r" % (at, n), ("==", m.settled(at), m.settled(n)))
 
 
@@ -274,7 +283,7 @@ class Reads(Induction):
             raise CannotShow("there is a read of no bytes")
         self.propose_all([n for n in self.iterate(m.copy()) if n.pc == self.head])
         i, f = m.new(64), of_byte(m.new(8))
-        position = T.add(64, (self.calls.block_of_output, i), (1, f))
+        position = self.calls.block_of_output * i + f
         wrong: set = {None}
         while wrong:                   # words that only grow in the first iteration are not known
             ends = self.iterate(self.general(position, f))
@@ -290,7 +299,7 @@ class Reads(Induction):
 
     def done(self, position: T.Term) -> T.Term:
         """How many bytes are written when this position is reached."""
-        return T.add(64, (1, position), (-1, self.position))
+        return position - self.position
 
     def general(self, position: T.Term, f: T.Term) -> Any:
         """The machine at the head of any iteration: the position is before the end of the read."""
@@ -321,12 +330,11 @@ class Reads(Induction):
     def propose_all(self, ends: list) -> None:
         """The words that grow or shrink with the position, what else changes, and what the C library left of it."""
         found = [(n, n.cells()) for n in ends]
-        moved = lambda n, cells, group: n.settled(
-            T.add(64, (1, self.word(cells, group)), (-1, self.word(self.first, group))))
+        moved = lambda n, cells, group: n.settled(self.word(cells, group) - self.word(self.first, group))
 
         def step(_: T.Term, group: tuple) -> int | None:
             moves = [[moved(n, cells, g) for g in (group, self.place)] for n, cells in found]
-            return next((sign for sign in (1, -1) if all(z is T.add(64, (sign, c)) for z, c in moves)), None)
+            return next((sign for sign in (1, -1) if all(z is sign * c for z, c in moves)), None)
         self.rest = self.propose({c for _, cells in found for c in self.changed(cells) if c[1] is not self.out}, step)
         self.left = {c for c in self.rest if c[0] == "vector" and all(
             self.start.may_be_left(*c[1:], cells[c]) for cells in [self.first] + [cells for _, cells in found])}
@@ -339,7 +347,7 @@ class Reads(Induction):
         position = self.word(m.cells(), self.place)
         self.calls.need_output(m, self.done(position))
         m.need("an iteration that reads nothing", ("<", before, position))
-        end = T.add(64, (1, self.position), (1, self.length))
+        end = self.position + self.length
         if m.pc != self.head:
             m.need("the loop ends at %r, not at %r" % (position, end), ("==", position, end))
             m.set_cells(dict(zip(self.place, T.split(end))))
@@ -372,8 +380,8 @@ def need_output(m: Any, need: Callable, blocks: Callable, size: int, first: T.Te
             raise IsWrong("no byte is written at %r of the output" % end)
         waiting.remove(piece)
         if piece.data is not None:     # the bytes before, by the induction
-            need_piece(m, need, blocks, size, T.add(64, (1, first), (1, end)), piece)
-        end = T.add(64, (1, end), (1, piece.length))
+            need_piece(m, need, blocks, size, first + end, piece)
+        end += piece.length
     m.need("%r bytes of the output, not %r" % (end, length), ("==", m.settled(end), m.settled(length)))
 
 
@@ -387,16 +395,15 @@ def need_piece(m: Any, need: Callable, blocks: Callable, size: int, position: T.
     start = m.settled(piece.start) if piece.start else T.const(64, 0)
     text = "the output at %r" % piece.offset
     if base_of(at) is None:
-        shift = base_of(T.add(64, (1, at), (-1, start)))
+        shift = base_of(at - start)
         if shift is None:
             raise CannotShow("the place in a block is %r, not %r" % (start, at))
-        m.need("%r bytes from %r on of a block" % (piece.length, at), (
-            "<=", T.add(64, (1, at), (1, piece.length)), T.const(64, size)))
+        m.need("%r bytes from %r on of a block" % (piece.length, at), ("<=", at + piece.length, T.const(64, size)))
         found, wanted = piece.data[max(-shift, 0):], blocks(i)[max(shift, 0):]
         least = min(len(found), len(wanted))
         need(text, found[:least], wanted[:least])
         return
     found = piece.data[base_of(start):][:m.path_facts.range(piece.length)[1]]
     places = [base_of(at) + k for k in range(len(found))]
-    made = {k: blocks(T.add(64, (1, i), (1, T.const(64, k)))) for k in {p // size for p in places}}
+    made = {k: blocks(i + k) for k in {p // size for p in places}}
     need(text, found, [made[p // size][p % size] for p in places])

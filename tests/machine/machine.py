@@ -1,6 +1,7 @@
 """What the models of the processors have in common: lines of objdump, memory, conditions, and operations on bytes."""
 
 import copy
+import operator
 from typing import Any, Callable, Iterable, NamedTuple
 
 import terms as T
@@ -8,17 +9,16 @@ from terms import CannotShow, IsWrong, signed
 
 # What instructions make of two words; the values may know more than the words say.
 ON_WORDS: dict = {
-    "add": lambda m, a, b: total(a, b), "sub": lambda m, a, b: total(a, b, -1), "and": lambda m, a, b: m.masked(a, b),
+    "add": lambda m, a, b: a + b, "sub": lambda m, a, b: a - b, "and": lambda m, a, b: m.masked(a, b),
     "or": lambda m, a, b: m.either(a, b), "xor": lambda m, a, b: m.xor_values(a, b),
-    "not": lambda m, a, b: T.add(a.w, (-1, a), (-1, T.const(a.w, 1))), "neg": lambda m, a, b: T.add(a.w, (-1, a)),
+    "not": lambda m, a, b: -a - 1, "neg": lambda m, a, b: -a,
     "shl": lambda m, a, b: m.shifted_left(a, b.args), "shr": lambda m, a, b: m.shifted_right(a, b.args),
-    "mul": lambda m, a, b: T.add(a.w, (b.args, a)) if b.op == "const" else None,
+    "mul": lambda m, a, b: b.args * a if b.op == "const" else None,
 }
 
 # What instructions make of the words of n bytes of vectors, and of a number.
 ON_VECTORS: dict = {
-    "add": lambda n, a, b: lanewise(total, n, a, b),
-    "sub": lambda n, a, b: lanewise(lambda x, y: total(x, y, -1), n, a, b),
+    "add": lambda n, a, b: lanewise(operator.add, n, a, b), "sub": lambda n, a, b: lanewise(operator.sub, n, a, b),
     "shl": lambda n, a, k: shifted(T.shl, n, a, k), "shr": lambda n, a, k: shifted(T.shr, n, a, k),
     "rol": lambda n, a, k: lanewise(lambda t: T.ror(8 * n, t, -k), n, a),
 }
@@ -47,7 +47,7 @@ class Operand:
 
     kind: str
     size: Any = None
-    index = value = parts = is_in_file = is_broadcast = mask = zeroes = n = start = size
+    index = value = parts = is_broadcast = mask = zeroes = n = start = size
     base = offset = mode = name = count = text = data = size
 
     def __init__(self, kind: str, **fields: Any) -> None:
@@ -127,6 +127,7 @@ class Values:
     anything: Callable                 # public bytes of which nothing is known
     mixed: Callable                    # a byte that may depend on all of these
     is_negative: Callable              # whether a word has its highest bit, or None
+    outcomes: Callable                 # the values after a conditional jump at an address, each with whether it jumps
 
     def __init__(self, regions: dict, processor: Any, alignment: tuple) -> None:
         self.regions, self.processor, self.alignment = regions, processor, alignment
@@ -235,7 +236,7 @@ class Values:
             raise CannotShow("an and of the stack pointer with %#x" % ((1 << 64) - low))
         if low > self.alignment[0]:
             raise Aligned(low)
-        return T.add(64, (1, address), (-1, T.const(64, (constant + self.alignment[1]) % low)))
+        return address - (constant + self.alignment[1]) % low
 
     def forget_below(self) -> None:
         """Forgets the stack below its pointer, which may have moved: a signal and the next call may write there."""
@@ -258,7 +259,16 @@ class Values:
         bases = self.bases_of(address)
         if len(bases) != 1:
             raise CannotShow("no memory is known at %r" % address)
-        return bases[0], total(address, bases[0], -1), self.regions[bases[0]]
+        return bases[0], address - bases[0], self.regions[bases[0]]
+
+    def byte(self, base: T.Term, k: Any) -> T.Byte:
+        """A byte of memory, at a base and an offset."""
+        found = self.memory.get((base, k))
+        return self.regions[base].initial(k) if found is None else found
+
+    def left(self, base: T.Term, n: int) -> list:
+        """The first bytes of some memory."""
+        return [self.byte(base, k) for k in range(n)]
 
     def bases_of(self, t: T.Term) -> list:
         """The bases of memory that are parts of a sum."""
@@ -292,7 +302,7 @@ class Values:
 
     @staticmethod
     def shifted_left(a: T.Term, k: int) -> T.Term:
-        return T.shl(a.w, a, k) if a.taint & ~T.PUBLIC else T.add(a.w, (1 << k, a))
+        return T.shl(a.w, a, k) if a.taint & ~T.PUBLIC else (1 << k) * a
 
     def norm(self, b: T.Byte) -> T.Byte:
         """A byte, by what is known of it."""
@@ -304,7 +314,7 @@ class Values:
 
     def bitfield(self, a: T.Term, low: int, size: int) -> Any:
         """Some low bits of a word, shifted to the left."""
-        return T.add(a.w, (1 << low, self.masked(a, T.const(a.w, (1 << size) - 1))))
+        return (1 << low) * self.masked(a, T.const(a.w, (1 << size) - 1))
 
     def test(self, a: list, b: list) -> None:
         """Sets flags by an and of two vectors, of which nothing is known but if it is zero."""
@@ -318,6 +328,8 @@ class Processor:
 
     FILES: dict = {}                   # its registers: how many, and the bytes of each
     STACK_POINTER: tuple = ()
+    BACK = 0                           # bytes of the return address, if it is on the stack
+    LINK: Any = None                   # its register, if it is in one
     RED_ZONE = 0                       # bytes below the stack pointer that a function may use
     FREE: tuple = ("nop",)             # instructions that need not be reached
     ARGUMENTS: tuple = ()              # the registers of arguments
@@ -329,18 +341,40 @@ class Processor:
     SAVED: tuple = ()                  # the registers that belong to the caller, except the stack pointer
     step: Callable                     # executes an instruction other than a jump, a call or a return
     condition: Callable                # what a conditional jump compares
-    clobbered_vector: Callable              # what a function may leave in a vector register
-    at_entry: Callable                 # the bytes a return must find: its address, the stack pointer, registers
+    set_link: Callable                 # puts the return address of a call where the function finds it
+    clobbered_vector: Callable         # what a function may leave in a vector register
+    SAVED_HALVES: tuple = ()           # and the vector registers whose first 8 bytes do
 
     def __init__(self, values: Any) -> None:
         self.values = values
 
-    def start(self, sp: T.Term, back: T.Term, arguments: list) -> None:
-        """The state at the entry of a function."""
-        self.values.stack = sp
-        self.values.general[self.STACK_POINTER[1]] = T.split(sp)
-        for register, t in zip(self.ARGUMENTS, arguments):
-            self.values.general[register] = T.split(t)
+    def start(self, arguments: list, room: int, below: Callable) -> None:
+        """The state at the entry of a function. Its stack has `room` bytes, each of which is below() at first."""
+        m, back = self.values, T.split(T.var(64, "return address", T.PUBLIC))
+        m.stack = T.var(64, "sp", T.PUBLIC)
+        above = back[:self.BACK] + joined(map(T.split, arguments[len(self.ARGUMENTS):]))
+        m.regions[m.stack] = Cells(-room, len(above), lambda k: above[k] if k >= 0 else below(), True, m.alignment)
+        words = [back, *map(T.split, [m.stack, *arguments])]
+        for register, data in zip((self.LINK, self.STACK_POINTER[1], *self.ARGUMENTS), words):
+            if register is not None:
+                m.general[register] = data
+
+    def at_entry(self) -> tuple:
+        """The bytes that a return must find: its address, the stack pointer, and registers."""
+        m, sp = self.values, self.values.stack_pointer()
+        back = m.load(sp, 8) if self.BACK else m.general[self.LINK]
+        halves = joined(m.vector[r][:8] for r in self.SAVED_HALVES)
+        return list(back), T.split(sp), joined(m.general[r] for r in self.SAVED) + halves
+
+    def enter(self) -> T.Term:
+        """A call, which sets the return address."""
+        self.check_stack()
+        link = self.values.new(64, "link")
+        self.set_link(T.split(link))
+        return link
+
+    def leave(self, link: T.Term) -> None:
+        """A return from a call to this address."""
 
     def argument(self, k: int) -> T.Term:
         return T.word(self.values.general[self.ARGUMENTS[k]])
@@ -396,18 +430,20 @@ class Processor:
                 pass
         return self.values.vector_of(f, *data)
 
-    def follow(self, i: Any) -> Any:
-        """Executes an instruction other than a call. Returns the address of the next one, or None after a return."""
+    def follow(self, i: Any) -> list:
+        """Executes an instruction but a call. Returns the values after it, each with the next address, if any."""
+        values = self.values
         if i.is_return:
-            return None
+            return [(values, None)]
         if i.target is None:
-            (name, at), values = self.STACK_POINTER, self.values
+            name, at = self.STACK_POINTER
             top = getattr(values, name)[at]
             self.step(i)
             if getattr(values, name)[at] != top:
                 values.forget_below()
-            return i.next
-        return i.target if i.is_jump or self.values.holds(self.condition(i)) else i.next
+            return [(values, i.next)]
+        outcomes = [(values, True)] if i.is_jump else values.outcomes(self.condition(i), i.address)
+        return [(n, i.target if jumps else i.next) for n, jumps in outcomes]
 
     def branched(self, condition: str) -> tuple | None:
         """What the condition of a branch compares, which must be public."""
@@ -431,7 +467,7 @@ class Processor:
                 a, b = (T.const(a.w, T.linear(t)[0]) for t in (a, b))
             if on_stack or not relation:            # with all numbers moved by a half of them
                 half = T.const(a.w, 1 << a.w - 1)
-                a, b = (T.add(t.w, (1, t), (1, half)) for t in (a, b))
+                a, b = (t + half for t in (a, b))
             return relation or self.SIGNED[condition], a, b
         if relation in ("==", "!=") or kind == "logic" and relation:
             return relation, r, T.const(r.w, 0)
@@ -514,11 +550,6 @@ def bitwise(f: Callable, a: list, b: list) -> list:
         return T.split(f(8 * len(a), x, y))
     half = len(a) // 2
     return bitwise(f, a[:half], b[:half]) + bitwise(f, a[half:], b[half:])
-
-
-def total(a: T.Term, b: T.Term, sign: int = 1) -> T.Term:
-    """The sum of two words, or their difference."""
-    return T.add(a.w, (1, a), (sign, b))
 
 
 def no_rule(*data: Any) -> Any:

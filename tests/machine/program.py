@@ -1,5 +1,4 @@
-"""Reads the code and the constants of a file: assembles and links it, and disassembles it with objdump; or reads a
-WebAssembly module."""
+"""Reads the code and the constants of a file, which it assembles, links and disassembles, or a WebAssembly module."""
 
 import functools
 import hashlib
@@ -18,6 +17,7 @@ import functions
 import wasm
 import x86
 from elf import ROOT
+from machine import Cells, image
 from terms import CannotShow, IsWrong
 
 sys.path.append(os.path.join(ROOT, "tools"))
@@ -311,6 +311,10 @@ class Program:
             return self.lines(name)
         comment = "#" if self.kind == "x86_64" else "//"
         return [" ".join(m[3].partition(comment)[0].split()) for m in map(LINE.match, self.lines(name)) if m]
+
+    def memory(self) -> dict:
+        """The memory of the constants, by its address."""
+        return {image(): Cells(0, 1 << 32, self.constant, False, (4096, 0))}
 
     def constant(self, address: int) -> int:
         """The byte of the constants at an address."""

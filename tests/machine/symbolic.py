@@ -7,7 +7,7 @@ from typing import Any, Callable, NamedTuple
 import terms as T
 from facts import RELATIONS, Facts
 from machine import (AFTER, AFTER_KEY, GROWS, KEPT, SECRET, Aligned, Cells, Flags, Values, bitwise, chunks, joined,
-                     need_public, total)
+                     need_public)
 from taint import is_secret, unpadded as without_zeros
 from terms import OPPOSITE, CannotShow, IsWrong, signed
 
@@ -89,8 +89,7 @@ class Buffer:
         self.name, self.length, self.taint, self.writable = name, length, taint, writable
 
     def initial(self, offset: int) -> T.Byte:
-        t = offset if isinstance(offset, T.Term) else T.const(64, offset)
-        return T.var(8, (self.name, t), self.taint), 0
+        return T.var(8, (self.name, T.of(64, offset)), self.taint), 0
 
     __call__ = initial
 
@@ -178,8 +177,7 @@ class Exact(Values):
         if self.vector[j][start:] == self.at_start["vector"][j][start:]:
             return True
         data = self.vector[j][start:]
-        return not any(data) or all(data) and all(
-            self.may_be_left(j, k, b) for k, b in enumerate(data, start))
+        return not any(data) or all(data) and all(self.may_be_left(j, k, b) for k, b in enumerate(data, start))
 
     @staticmethod
     def left_by(data: list) -> str:
@@ -230,18 +228,17 @@ class Exact(Values):
 
     def decide(self, relation: str, a: T.Term, b: T.Term) -> bool | None:
         """Whether two words are so related, if that is known. What is written overlaps no other argument."""
-        bases = tuple(sorted({u for t in (a, b) for u in T.linear(t)[1] if u in self.regions},
-                             key=lambda u: u.serial))
+        bases = tuple(sorted({u for t in (a, b) for u in T.linear(t)[1] if u in self.regions}, key=lambda u: u.serial))
         if len(bases) == 2 and bases not in self.apart and any(self.regions[u].writable for u in bases):
             self.apart = self.apart | {bases}
-            x, y = (total(u, T.const(64, self.regions[u].low)) for u in bases)
+            x, y = (u + self.regions[u].low for u in bases)
             n, m = (self.regions[u].length for u in bases)
             self.path_facts = self.path_facts.apart(x, n, y, m)
         return self.path_facts.decide(relation, a, b)
 
     def is_always(self, relation: str, a: T.Term, b: Any) -> bool:
         """Whether a word is so related to another, or to a number."""
-        return self.path_facts.imply(relation, a, T.const(a.w, b) if isinstance(b, int) else b)
+        return self.path_facts.imply(relation, a, T.of(a.w, b))
 
     def need(self, text: str, *wanted: tuple) -> None:
         """Refuses a path on which one of some comparisons may not hold."""
@@ -252,11 +249,11 @@ class Exact(Values):
 
     def need_inside(self, text: str, region: Any, at: T.Term, n: T.Term) -> None:
         """Refuses n bytes from an offset on that may not be in a region."""
-        at = total(at, T.const(64, region.low), -1)
-        inside = lambda n: (("<=", n, region.length), ("<=", at, total(region.length, n, -1)))
+        at = at - region.low
+        inside = lambda n: (("<=", n, region.length), ("<=", at, region.length - n))
         if n.op == "const" and region.writable and isinstance(region, Buffer):
             for first, count in self.inside.get(region, ()):
-                behind = base_of(total(at, first, -1))
+                behind = base_of(at - first)
                 if behind is not None and 0 <= behind <= count - n.args:
                     return
             most = T.const(64, max(n.args, WRITTEN))
@@ -311,6 +308,9 @@ class Exact(Values):
             need_public(t, "a branch")
         return self.decided(compared)
 
+    def outcomes(self, compared: Any, at: int) -> list:
+        return [(self, self.holds(compared))]
+
     def compare_again(self, a: list, b: list) -> None:
         """The flags would be of one comparison or of another."""
         raise CannotShow("a comparison that depends on another is not modelled in whole calls")
@@ -350,7 +350,7 @@ class Exact(Values):
     def either(self, a: T.Term, b: T.Term) -> T.Term:
         for t, u in ((a, b), (b, a)):
             if t.op == "const" and self.is_clear(u, t.args):
-                return T.add(a.w, (1, t), (1, u))
+                return t + u
         x, y = self.normal(a), self.normal(b)
         try:
             return T.word(bitwise(T.either, x, y))
@@ -371,9 +371,9 @@ class Exact(Values):
         constant, items = T.linear(t)
         rest = T.add(t.w, *[(k, u) for u, k in items.items() if k % m])
         for extra in {constant % m, constant % m - m}:
-            found = T.add(t.w, (1, rest), (1, T.const(t.w, extra)))
+            found = rest + extra
             if self.is_always("<", found, m):
-                return T.add(t.w, (1, t), (-1, found)), found
+                return t - found, found
         return None
 
     def masked(self, a: Any, b: Any) -> Any:
@@ -479,29 +479,33 @@ class Exact(Values):
     def check_disjoint(self, what: str, to: T.Term, size: int, source: T.Term, length: int) -> None:
         """Refuses a function that may write to what it reads, at two places. Arguments do not overlap."""
         (base, at, _), (other, start, _) = self.region_of(to), self.region_of(source)
-        apart = T.add(64, (1, at), (-1, start))
+        apart = at - start
         if base is other and size and length:
             self.need("%s of %d bytes to %r, from %r, which may overlap" % (what, size, to, source), (
                 ">=", apart, T.const(64, length)), ("<=", apart, T.const(64, -size)))
 
-    def copy_memory(self, to: T.Term, source: T.Term, length: T.Term) -> list:
-        """Copies, and returns the bytes that may be read."""
+    def copy_memory(self, to: T.Term, source: T.Term, length: T.Term, is_apart: bool) -> list:
+        """Copies, by memcpy if both must be apart, and returns the bytes that may be read."""
+        length = self.settled(length)
         need_public(length, "a length")
         if length is T.const(64, 0):
             return []
+        if is_apart:
+            self.check_disjoint("memcpy", to, self.most(length), source, self.most(length))
         base, offset, region = self.region_inside(source, length)
         if isinstance(region, Cells) and region.writable and base_of(offset) is None:
-            low, high = self.bounds(region, offset)[0], self.bounds(region, total(offset, length))[1]
+            low, high = self.bounds(region, offset)[0], self.bounds(region, offset + length)[1]
             if high - low > 256 or base is self.stack and low < self.lowest():
                 raise CannotShow("a copy of %r bytes from %r" % (length, offset))
             data = self.bytes_at(base, range(low, high), region)
-            self.add_piece(self.region_inside(to, length, True), data, length, total(offset, T.const(64, low), -1))
+            self.add_piece(self.region_inside(to, length, True), data, length, offset - low)
         else:
             data = self.bytes_at(base, offsets(offset, self.most(length)), region)
             self.write_some(to, data, length)
         return data
 
     def fill_memory(self, to: T.Term, byte: T.Byte, length: T.Term) -> None:
+        length = self.settled(length)
         need_public(length, "a length")
         if length.op == "const":
             if length.args:
@@ -517,10 +521,10 @@ class Exact(Values):
 
     def fill_from(self, base: T.Term, offset: T.Term, region: Cells, byte: T.Byte, length: T.Term) -> None:
         """Fills to an end that is a number, from an offset that is not."""
-        end = base_of(total(offset, length))
+        end = base_of(offset + length)
         low, high = self.bounds(region, offset)
         constant = T.linear(offset)[0]
-        size = total(offset, T.const(64, constant), -1)
+        size = offset - constant
         # Without a wrap, a place is before the offset if it is less than the number and the rest.
         if end is None or high - low > 128 or not self.is_always("<=", size, 1 << 32) or (
                 base is self.stack and low < self.lowest()):
@@ -531,7 +535,7 @@ class Exact(Values):
 
     def bounds(self, region: Cells, offset: T.Term) -> list:
         """A least and a greatest number that an offset may be."""
-        return [region.low + n for n in self.path_facts.range(total(offset, T.const(64, region.low), -1))]
+        return [region.low + n for n in self.path_facts.range(offset - region.low)]
 
     def region_inside(self, address: T.Term, length: T.Term, is_written: bool = False) -> tuple:
         """The base, the offset and the region of bytes, all of which must be in it."""
@@ -567,7 +571,7 @@ def offsets(offset: T.Term, size: int) -> Any:
     at = base_of(offset)
     if at is not None:
         return range(at, at + size)
-    return [T.add(64, (1, offset), (1, T.const(64, k))) for k in range(size)]
+    return [offset + k for k in range(size)]
 
 
 def is_secret_byte(b: T.Byte) -> bool:

@@ -12,7 +12,7 @@ from math import gcd
 from typing import Any, Callable, Iterator
 
 import terms as T
-from machine import KEPT, SECRET, UNKNOWN, Cells, Flags, Values, bitwise, joined, need_public, total
+from machine import AFTER, KEPT, SECRET, UNKNOWN, Cells, Flags, Values, bitwise, joined, need_public
 from terms import OPPOSITE, CannotShow, IsWrong, signed
 
 TOP = 1 << 64
@@ -125,6 +125,11 @@ class Taint(Values):
         other = super().copy()
         other.ranges = dict(self.ranges)
         return other
+
+    @staticmethod
+    def left_by(data: list) -> str:
+        """What a function of the C library leaves."""
+        return AFTER
 
     def lost(self, n: int, what: str) -> list:
         """What a function leaves in a register."""
@@ -252,7 +257,7 @@ class Taint(Values):
             low, high = max(p, r), min(q, s)
             return low <= high and self.limit(a, low, high) and self.limit(b, low, high)
         if relation == "!=":
-            difference, size = T.add(a.w, (1, b), (-1, a)), 1 << a.w
+            difference, size = b - a, 1 << a.w
             low, high, step = self.range_of(difference)
             first, last = (low % size == 0) * (step or 1), (high % size == 0) * (step or 1)
             return high - low >= size or low + first <= high - last and self.limit(difference, low + first, high - last)
@@ -260,7 +265,7 @@ class Taint(Values):
         if strict and a is b or p + strict > s:
             return False
         may = self.limit(a, p, min(q, s - strict)) and self.limit(b, max(r, p + strict), s)
-        return may and self.limit(T.add(a.w, (1, b), (-1, a)), strict + 0, s - p)
+        return may and self.limit(b - a, strict + 0, s - p)
 
     def widened(self, old: tuple, new: tuple, w: int, visits: int) -> tuple:
         """A range that stops to grow after some visits. Its end goes to a block's size first."""
@@ -318,7 +323,7 @@ class Taint(Values):
         if not any(map(is_secret, a + b + data)):
             words = T.word(data), T.word(a), T.word(b)
             for t in words[1:]:
-                self.relate(one, other, 0, *(total(u, t, -1) for u in words))
+                self.relate(one, other, 0, *(u - t for u in words))
         return data
 
     def relate(self, one: Any, other: Any, visits: int, *words: T.Term) -> None:
@@ -343,7 +348,6 @@ class Taint(Values):
         return x, 0
 
     def outcomes(self, compared: Any, at: int) -> Iterator:
-        """The states after a conditional jump at an address, each with whether it jumps."""
         words = compared[1:] if compared and "carry" not in compared[0] else ()
         self.bounds |= {t for t in words if t.w == 64 and t.op in ("var", "add")}
         if {t.op for t in words} != {"const"}:
@@ -357,7 +361,7 @@ class Taint(Values):
         """An or. If it is 0, both are."""
         for t, u in ((a, b), (b, a)):
             if t.op == "const" and (t.args == 0 or self.is_clear(u, t.args)):
-                return T.add(a.w, (1, t), (1, u))
+                return t + u
         bits = max(self.unsigned(a)[1], self.unsigned(b)[1]).bit_length()
         r = self.new(a.w, "", (0, (1 << bits) - 1, 1))
         if a in self.facts and b in self.facts:
@@ -381,7 +385,7 @@ class Taint(Values):
         if set(T.linear(a)[1]) == {self.stack}:
             return self.aligned_stack(a, low)
         if b.op == "const" and low <= 4096 and low & low - 1 == 0:
-            r = T.add(a.w, (1, a), (-1, self.new(a.w, "low", (0, low - 1, 1))))
+            r = a - self.new(a.w, "low", (0, low - 1, 1))
             first, last = self.unsigned(a)
             self.limit(r, first & -low, last & -low, low)
             return r
@@ -423,7 +427,7 @@ class Taint(Values):
     def places(self, address: T.Term, length: T.Term) -> tuple:
         """The base, the offsets of bytes that an access may reach, and the region. Without a bound, one block."""
         base, _, region = self.region_of(address)
-        (low, _, step), (_, end, _) = (self.offset(t, base) for t in (address, total(address, length)))
+        (low, _, step), (_, end, _) = (self.offset(t, base) for t in (address, address + length))
         if base is self.stack and low < self.lowest():
             raise IsWrong("%r is below the stack" % address)
         if region.uniform:             # one stands for all
@@ -437,15 +441,11 @@ class Taint(Values):
             raise CannotShow("no bound is known for %r, from %d on" % (address, low))
         return base, range(low, end), region
 
-    def byte(self, base: T.Term, k: int, region: Any) -> T.Byte:
-        found = self.memory.get((base, k))
-        return region.initial(k) if found is None else found
-
     def load(self, address: T.Term, size: Any, aligned: bool = False) -> list:
         base, places, region = self.places(address, T.const(64, size))
         if region.table:
-            return region.table(self, self.range_of(total(address, base, -1)), size)
-        data = [self.byte(base, k, region) for k in places]
+            return region.table(self, self.range_of(address - base), size)
+        data = [self.byte(base, k) for k in places]
         return data if len(data) == size else [self.mixed(data)] * size
 
     def store(self, address: T.Term, data: list, aligned: bool = False) -> None:
@@ -459,21 +459,21 @@ class Taint(Values):
             return
         data = self.cleaned(data, False)
         if length is not T.const(64, len(places)):
-            new, old = self.mixed(data), [self.byte(base, k, region) for k in places]
+            new, old = self.mixed(data), [self.byte(base, k) for k in places]
             lost = [b for b in old if not (isinstance(b, int) or is_secret(b) or b == UNKNOWN_BYTE)]
             if base is self.stack and is_secret(new) and lost:
                 raise CannotShow("no bound is known for a place: a secret may overwrite %r on the stack" % lost[0][0])
             data = [joined_byte(b, new) for b in old]
         self.memory.update(zip(zip(itertools.repeat(base), places), data))
 
-    def copy_memory(self, to: T.Term, source: T.Term, length: T.Term) -> None:
+    def copy_memory(self, to: T.Term, source: T.Term, length: T.Term, is_apart: bool) -> None:
         """memcpy and memmove."""
         length = self.length(length)
         if length.op == "const":
             self.store(to, self.load(source, length.args))
         else:
             base, places, region = self.places(source, length)
-            self.write(to, length, [self.byte(base, k, region) for k in places])
+            self.write(to, length, [self.byte(base, k) for k in places])
 
     def fill_memory(self, to: T.Term, b: T.Byte, length: T.Term) -> None:
         """memset."""
@@ -507,7 +507,7 @@ class Taint(Values):
                         words.append([T.word(d) for d in (data, a, b)])
         changed = {(base, k & ~7) for (base, k), _ in self.memory.items() ^ other.memory.items()}
         for base, k in sorted(changed, key=lambda at: (at[0].serial, at[1])):
-            a, b = ([m.byte(base, k + j, self.regions[base]) for j in range(8)] for m in (old, other))
+            a, b = ([m.byte(base, k + j) for j in range(8)] for m in (old, other))
             for r in units(a, b) if a != SECRET_WORD else ():
                 at = k + r.start
                 data = self.joined(old, other, a[r.start:r.stop], b[r.start:r.stop], "%s%d" % (base.args, at), visits)
@@ -527,7 +527,7 @@ class Taint(Values):
         for k, three in enumerate(words):
             for sign, others in ((-1, bounds), (1, words[:k]), (-1, words[:k])):
                 for pair in others:
-                    self.relate(old, other, visits, *(total(u, v, sign) for u, v in zip(three, pair)))
+                    self.relate(old, other, visits, *(u + sign * v for u, v in zip(three, pair)))
 
     def joined(self, old: Any, other: Any, a: list, b: list, name: str, visits: int) -> list:
         """The bytes of a word or a vector that is one of both."""
@@ -546,7 +546,7 @@ class Taint(Values):
         base, w = self.common(t, u), 8 * len(a)
         old_range, new_range = (m.offset(v, base) for m, v in ((old, t), (other, u)))
         x = self.new(w, name, self.widened(old_range, merged_ranges(old_range, new_range), w, visits))
-        return T.split(total(base, x) if w == 64 else x)
+        return T.split(base + x if w == 64 else x)
 
     def common(self, t: T.Term, u: T.Term) -> T.Term:
         """The base that two words have in common, or 0. Bases of memory that is only read become a base of both."""
@@ -568,6 +568,6 @@ class Taint(Values):
             return self.range_of(t)
         if base not in T.linear(t)[1]:
             return -TOP, TOP, 1
-        low, high, step = self.range_of(total(t, base, -1))
+        low, high, step = self.range_of(t - base)
         shift = low + TOP // 2 & -TOP
         return low - shift, high - shift, step

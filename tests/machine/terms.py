@@ -1,7 +1,5 @@
-"""Words as terms in a normal form, such that equal terms are the same object.
-
-A term stands for a word of w bits, as a function of variables. Each constructor below returns the
-normal form of its result:
+"""Words as terms in a normal form, such that equal terms are the same object. A term stands for a word of w bits, as a
+function of variables. Each constructor below returns the normal form of its result:
 
   const     a number
   var       a variable; its taint is PUBLIC, SECRET or JUNK
@@ -15,9 +13,8 @@ normal form of its result:
   zero      1 if a term is 0, and otherwise 0
   nonzero   0 if a term is 0, and otherwise 1
 
-A value in a register or in memory is a list of bytes, the lowest first. A byte is a number, or the
-pair of a term and of the place of the byte in it. So moves and shuffles only move pairs.
-"""
+A value in a register or in memory is a list of bytes, the lowest first. A byte is a number, or the pair of a term and
+of the place of the byte in it. So moves and shuffles only move pairs."""
 
 import functools
 import operator
@@ -58,6 +55,13 @@ class Term:
 
     def __repr__(self) -> str:
         return show(self, 3)
+
+    # Sums of words and numbers.
+    __add__: Any = lambda a, b: add(a.w, (1, a), (1, of(a.w, b)))
+    __sub__: Any = lambda a, b: add(a.w, (1, a), (-1, of(a.w, b)))
+    __radd__, __rsub__ = __add__, lambda a, n: const(a.w, n) - a
+    __rmul__: Any = lambda a, k: add(a.w, (k, a))
+    __neg__: Any = lambda a: add(a.w, (-1, a))
 
 
 # A byte: a number, or the byte of a term at a place from its lowest one on.
@@ -113,6 +117,11 @@ def signed(w: int, n: int) -> int:
 def const(w: int, n: int) -> Term:
     """The number n modulo 2^w."""
     return _term("const", w, n & ((1 << w) - 1), 0)
+
+
+def of(w: int, n: Term | int) -> Term:
+    """A word, or that of a number."""
+    return const(w, n) if isinstance(n, int) else n
 
 
 def var(w: int, name: Any, taint: int) -> Term:

@@ -1,12 +1,13 @@
 """A model of the WebAssembly instructions that the compression functions use. Any other is an error. Most are a line
 of pure_instructions()."""
 
+import operator
 import re
 from typing import Any, Callable
 
 import machine
 import terms as T
-from machine import Processor, bitwise, lanewise, number, of_numbers, picked, shifted, total
+from machine import Cells, Processor, bitwise, lanewise, number, of_numbers, picked, shifted
 from terms import CannotShow
 
 SIZES = {"i32": 4, "i64": 8, "v128": 16}
@@ -64,7 +65,7 @@ def pure_instructions() -> dict:
             32, lambda a, b, mask: a & mask | b & ~mask, *words), 4, *data)),
     }
     words: dict = {
-        "add": total, "sub": lambda a, b: total(a, b, -1), "xor": lambda a, b: T.xor(a.w, a, b),
+        "add": operator.add, "sub": operator.sub, "xor": lambda a, b: T.xor(a.w, a, b),
         "and": lambda a, b: T.both(a.w, a, b), "or": lambda a, b: T.either(a.w, a, b),
         "shl": lambda a, b: T.shl(a.w, a, number(T.split(b)) % a.w),
         "shr_u": lambda a, b: T.shr(a.w, a, number(T.split(b)) % a.w),
@@ -74,13 +75,13 @@ def pure_instructions() -> dict:
         found[kind + ".const"] = "", kind, lambda n, w=w: T.split(T.const(w, n))
         found[kind + ".eqz"] = kind, "i32", of_words(lambda a: T.test("zero", 32, a))
         for name, op in (("eq", "zero"), ("ne", "nonzero")):
-            found["%s.%s" % (kind, name)] = two, "i32", of_words(lambda a, b, op=op: T.test(op, 32, total(a, b, -1)))
+            found["%s.%s" % (kind, name)] = two, "i32", of_words(lambda a, b, op=op: T.test(op, 32, a - b))
         found.update({"%s.%s" % (kind, name): (two, kind, of_words(f)) for name, f in words.items()})
     for kind, (lane, n) in LANES.items():
         found[kind + ".splat"] = lane, "v128", lambda a, n=n: a * (16 // n)
         found[kind + ".replace_lane"] = "v128 " + lane, "v128", lambda a, value, k, n=n: (
             a[:n * k] + value + a[n * k + n:])
-        found[kind + ".add"] = "v128 v128", "v128", lambda a, b, n=n: lanewise(total, n, a, b)
+        found[kind + ".add"] = "v128 v128", "v128", lambda a, b, n=n: lanewise(operator.add, n, a, b)
         for name, f in (("shl", T.shl), ("shr_u", T.shr), ("shr_s", signed_shift)):
             found["%s.%s" % (kind, name)] = "v128 i32", "v128", lambda a, k, f=f, n=n: shifted(
                 f, n, a, number(k) % (8 * n))
@@ -98,11 +99,12 @@ class Wasm(Processor):
     RED_ZONE = 128
     FREE = ("nop", "unreachable", "end")
 
-    def start(self, sp: T.Term, back: T.Term, arguments: list, signature: Any = None) -> None:
+    def start(self, arguments: list, room: int, below: Callable, signature: Any = None) -> None:
         """The state at the entry of a function, whose types are in a wasm_format.Function."""
         m = self.values
-        m.stack = sp
-        m.globals = [T.split(sp)]
+        m.stack = T.word(T.split(T.var(64, "sp", T.PUBLIC))[:4])
+        m.regions[m.stack] = Cells(-room, 0, lambda k: below(), True, m.alignment)
+        m.globals = [T.split(m.stack)]
         sizes = [SIZES[t] for t in signature.locals]
         m.locals = [T.split(t)[:n] for t, n in zip(arguments, sizes)]
         if len(arguments) != len(signature.parameters):
@@ -121,7 +123,10 @@ class Wasm(Processor):
     def push(self, data: list) -> None:
         self.values.operands.append(list(data))
 
-    def follow(self, i: Instruction) -> int | None:
+    def follow(self, i: Instruction) -> list:
+        return [(self.values, self.execute(i))]
+
+    def execute(self, i: Instruction) -> int | None:
         """Executes an instruction. Returns the address of the next one, or None after a return."""
         kind, _, what = i.name.partition(".")
         if kind in ("br", "br_if", "block", "loop", "end", "return"):
@@ -207,7 +212,7 @@ class Wasm(Processor):
         self.values.place(address, 0, False)
         if offset >= ROOM:
             raise CannotShow("the offset %d is too high" % offset)
-        return T.add(address.w, (1, address), (1, T.const(address.w, offset)))
+        return address + offset
 
 
 Model = Wasm

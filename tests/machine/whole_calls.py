@@ -8,12 +8,13 @@ import compression
 import functions
 import program as programs
 import terms as T
-from constant_time import OF_C, STACK
+from constant_time import ANSWERING, STACK
 from loops import MOST, Differences, Reads, Straight, cycle, no_output
-from machine import LEFT, SECRET, UNKNOWN, Flags, bitwise, chunks, image, joined, need_public, total
+from machine import LEFT, UNKNOWN, Flags, bitwise, chunks, joined, need_public
 from rfc7693 import Kind
-from symbolic import Buffer, Cells, Exact, Undecided, any_of, below, fresh, is_zero, unpadded
+from symbolic import Buffer, Exact, Undecided, any_of, below, fresh, is_zero, unpadded
 from terms import CannotShow, IsWrong
+from walk import OF_C, Walker
 from x86 import UPPER
 
 PATHS, LIMIT = 200, 200000             # of a call: paths at a time, and instructions
@@ -27,7 +28,7 @@ class Terms:
         self.calls, self.machine = calls, machine
 
     def word(self, n: Any) -> T.Term:
-        t = T.const(64, n) if isinstance(n, int) else n
+        t = T.of(64, n)
         return t if t.op == "const" else unpadded(self.machine, self.machine.settled(t))
 
     def number(self, n: T.Term | int, size: int) -> list:
@@ -43,15 +44,6 @@ class Terms:
         if isinstance(n, int):
             return x if j < n else y
         return below(self.machine, j, self.word(n), x, y)
-
-    def plus(self, a: Any, b: Any) -> T.Term:
-        return total(self.word(a), self.word(b))
-
-    def minus(self, a: Any, b: Any) -> T.Term:
-        return total(self.word(a), self.word(b), -1)
-
-    def times(self, m: int, k: Any) -> T.Term:
-        return T.add(64, (m, self.word(k)))
 
     def holds(self, relation: str, a: Any, b: Any) -> bool:
         """Whether two words are so related, which must be known."""
@@ -103,31 +95,24 @@ class Loop(Straight):
         """The machine after the loop."""
         second, left, one = self.compress(self.start.copy())
         kind, size, result = one["kind"], one["kind"].block, one["result"]
-        count = T.add(64, (1, left), (1, T.const(64, 1)))
+        count = left + 1
         if not (self.start.is_always(">", count, 0) and self.start.is_always("<=", count, MOST // size)):
             raise CannotShow("the number of blocks is not known: %r" % count)
-        at_head = self.proposed(second.cells(), result)
+        self.propose_chain(second.cells(), one["chain"], result)
         j = self.start.new(64)         # the iterations that follow a general one
-        i, chain = T.add(64, (1, left), (-1, j)), fresh("chain", T.SECRET, len(result))
-        general = at_head(i, chain)
+        i, chain = left - j, fresh("chain", T.SECRET, len(result))
+        general = self.at_head(i, chain)
         if not general.learn("<", j, count, True):
             raise CannotShow("no iteration is possible")
         after, end, call = self.compress(general)
         if end is not j:
             raise IsWrong("the loop ends if %r is 0, instead of %r" % (end, j))
-        self.need(after, at_head(T.add(64, (1, i), (1, T.const(64, 1))), call["result"]).cells())
+        self.need(after, self.at_head(i + 1, call["result"]).cells())
         self.need_block(one, call, i, chain)
-        before = T.add(64, (1, one["counter"]), (-1, T.const(64, size)))
+        before = one["counter"] - size
         words = Terms(self.calls, self.start).compress_all(
             kind, one["chain"], one["region"], one["offset"], count, before)
-        return self.ended(at_head(count, words), [second, after])
-
-    def proposed(self, second: dict, result: list) -> Callable:
-        """The machine at the head of an iteration, by its number and its chaining words, as the first one proposes."""
-        changed, place = self.changed(second), {b: k for k, b in enumerate(result)}
-        places = {c: place[self.at(second, c)] for c in changed if self.at(second, c) in place}
-        self.rest = self.propose(changed - set(places), self.constant_step(second))
-        return lambda i, words: self.machine(i, {c: words[k] for c, k in places.items()})
+        return self.ended(self.at_head(count, words), [second, after])
 
     @staticmethod
     def need_block(first: dict, call: dict, i: T.Term, chain: list) -> None:
@@ -135,23 +120,20 @@ class Loop(Straight):
         region, offset, size = call["region"], call["offset"], first["kind"].block
         for what, found, wanted in (
                 ("chaining words", call["chain"], chain), ("buffer", region, first["region"]),
-                ("block", offset, T.add(64, (1, first["offset"]), (size, i))),
-                ("counter", call["counter"], T.add(64, (1, first["counter"]), (size, i))),
-                ("flags", call["flags"], [0, 0])):
+                ("block", offset, first["offset"] + size * i), ("flags", call["flags"], [0, 0]),
+                ("counter", call["counter"], first["counter"] + size * i)):
             if found != wanted:
                 raise IsWrong("the %s of a block in a loop: %r instead of %r" % (what, found, wanted))
-        if [region.initial(T.add(64, (1, offset), (1, T.const(64, k)))) for k in range(size)] != call["block"]:
+        if [region.initial(offset + k) for k in range(size)] != call["block"]:
             raise CannotShow("a block in a loop is not that of its argument")
 
 
-class Calls:
+class Calls(Walker):
     """Executes the functions of a file."""
 
-    codes: dict
-    scrubs: dict
     results: dict
     compressed: list
-    at: Any
+    comparing = functions.MEMCMP,
     # Of BLAKE2X: where a state has the position, the bytes of a block of the output, and what refuses an
     # output of which not so many bytes are as they should be, in the case that is shown.
     place_of_position: int
@@ -159,17 +141,13 @@ class Calls:
     need_output: Callable
 
     def __init__(self, program: programs.Program, exported: str = "") -> None:
-        self.program, self.codes, self.at, self.count = program, {}, None, 0
-        self.cpu: Any = program.model.Model    # what executes instructions over values
-        self.exported, self.scrubs = exported, functions.scrubs(program)
-        self.listed = {functions.in_file(program.path, name): (kind, lanes)
-                       for name, kind, lanes in functions.FILES[program.path]}
-        self.answering = tuple(functions.IS_DIGEST_OF % f for f in ("blake2b", "blake2s"))
+        super().__init__(program, exported)
+        self.codes: dict = {}
         self.forget()
 
     def frame(self, name: str) -> int:
         """How much of the stack a function uses that compresses one block, or one of each message."""
-        if self.listed[name][1] != 1 and compression.call_of(name) is not compression.EachCall:
+        if self.listed[name][2] != 1 and compression.call_of(name) is not compression.EachCall:
             raise CannotShow("a compression of several messages")
         if self.program.content(name) not in compression.FRAMES:
             raise Unmeasured(name)
@@ -217,7 +195,7 @@ class Calls:
         while waiting:
             m, pc = waiting.pop()
             is_end = pc in loop if len(loop) == 1 else loop and pc not in loop or pc == start
-            if is_end and not is_new:
+            if pc is None or is_end and not is_new:
                 m.pc = pc
                 ends.append(m)
                 continue
@@ -226,13 +204,13 @@ class Calls:
             self.count += 1
             if pc not in code:
                 raise IsWrong("%s goes on behind its end" % name)
-            i = self.at = code[pc]
             if pc in loops and not (is_new or pc in loop):
+                self.at = code[pc]
                 waiting += self.after_loop(name, pc, m)
                 continue
             is_new = False
             try:
-                self.follow(name, m, i, entry, waiting, ends)
+                waiting += self.follow(name, m, code[pc], code, entry)
             except Undecided as e:
                 for holds in (True, False):
                     other = m.copy()
@@ -250,70 +228,18 @@ class Calls:
         last = code[loops[head]]
         return [(rule(self, m, lambda n: self.run(name, n, head, {last.address}), last).show(), last.next)]
 
-    def follow(self, name: str, m: Any, i: Any, entry: tuple, waiting: list, ends: list) -> None:
-        """Executes an instruction."""
-        code, cpu = self.codes[name][0], self.cpu(m)
-        if i.is_call:
-            link = cpu.enter()
-            m.go_down(m.lowest())
-            for n in self.call(m, i):
-                self.cpu(n).leave(link)
-                n.forget_below()
-                waiting.append((n, i.next))
-        elif i.is_return:
-            self.check(m, entry, name)
-            m.forget_below()
-            ends.append(m)
-        elif i.is_trap:
-            raise IsWrong("a trap is reached")
-        elif name == functions.MEMCMP and i.target is not None and not i.is_jump and m.flags.kind == SECRET:
-            waiting += self.compared(m, i, code)
-        else:
-            pc = cpu.follow(i)
-            if pc in code:
-                waiting.append((m, pc))
-            else:                      # a call in place of a return
-                self.check(m, entry, name)
-                for end in self.call(m, i):
-                    self.check(end, entry, name, 1)
-                    ends.append(end)
-
-    def check(self, m: Any, entry: tuple, name: str, first: int = 0) -> None:
-        """What a return must find. The return address is the first of it."""
-        if entry is None:
-            raise CannotShow("%s returns in a loop" % name)
-        self.cpu(m).check_return(entry, first)
-
     def call(self, m: Any, i: Any) -> list:
-        """The machines after a call of another function."""
-        name = self.program.target(i, OF_C)
-        to, source, length = (self.cpu(m).argument(k) for k in range(3))
-        read, length = T.split(source)[:1], m.settled(length)  # the bytes that a function of the C library reads
-        if name in self.listed:
-            self.compress(m, *self.listed[name])
-            return [m]
-        if name == "memset":
-            m.fill_memory(to, T.split(source)[0], length)
-        elif name in OF_C:
-            if name == "memcpy" and length is not T.const(64, 0):
-                size = m.most(length)
-                m.check_disjoint(name, to, size, source, size)
-            read = m.copy_memory(to, source, length)
-        else:
-            return self.run_inner(name, m)
-        self.cpu(m).clobber(m.left_by(read))
-        if name in OF_C:
-            self.cpu(m).set_answer(T.split(to))
-        return [m]
+        m.go_down(m.lowest())
+        return super().call(m, i)
 
-    def run_inner(self, name: str, m: Any) -> list:
+    def run_inner(self, m: Any, name: str) -> list:
         """The machines after a call of a function whose code is executed."""
         if name in functions.SQUEEZES:
-            self.position = T.add(64, (1, self.cpu(m).argument(0)), (1, T.const(64, self.place_of_position)))
+            self.position = self.cpu(m).argument(0) + self.place_of_position
         if name in self.scrubs and m.deepest < m.lowest() - self.scrubs[name]:
             raise IsWrong("scrub_stack overwrites %d bytes, and the call has used more" % self.scrubs[name])
         ends = self.run(name, m)
-        if name in self.answering:
+        if name in ANSWERING:
             return [other for end in ends for other in self.public_answers(end)]
         for end in ends if name in self.scrubs else ():
             if end.secrets:
@@ -322,10 +248,9 @@ class Calls:
             end.is_scrubbed = True
         return ends
 
-    def compared(self, m: Any, i: Any, code: dict) -> list:
-        """Both ways of the branch by which a comparison returns: all that it has collected is zero, or not."""
-        if i.name not in ("je", "b.eq") or m.compared_bytes or not all(
-                self.cpu.only_returns(code, pc) for pc in (i.target, i.next)):
+    def answered(self, m: Any, i: Any) -> list:
+        """Both ways of the branch: all that was collected is zero, or not."""
+        if i.name not in ("je", "b.eq") or m.compared_bytes:
             raise IsWrong("a branch depends on secret data")
         if m.flags.result is None:
             raise CannotShow("it is not known which word a comparison returns by")
@@ -353,10 +278,10 @@ class Calls:
             self.cpu(n).set_answer([n.compared_bytes[1]])
         return found
 
-    def compress(self, m: Any, kind: Kind, lanes: int) -> None:
+    def compress(self, m: Any, name: str) -> list:
         """A call of F: of one message, or of one block of each of several, whose chaining words are in rows of all, and
         what else differs in tables."""
-        frame = self.frame(self.program.target(self.at, OF_C))
+        frame, (_, kind, lanes) = self.frame(name), self.listed[name]
         rows, *others = (self.cpu(m).argument(k) for k in range(5))
         tables = [(t, n * lanes) for t, n in zip(others, (8, 8, 2))] * (lanes != 1)
         if tables:
@@ -374,6 +299,7 @@ class Calls:
         m.store(rows, joined(result))
         m.compressed(frame)
         self.cpu(m).clobber(LEFT)
+        return [m]
 
     def compress_one(self, m: Any, kind: Kind, chain: list, at: T.Term, counter: T.Term, flags: list) -> list:
         """The chaining words after the block at an address."""
@@ -388,14 +314,13 @@ class Calls:
 
 
 class Scrub(Calls):
-    """Executes a scrub_stack."""
+    """Executes a scrub_stack, which calls memset, and settle, which reads the zeros."""
 
     def __init__(self, program: programs.Program, name: str, count: int) -> None:
         super().__init__(program)
         self.name, self.wanted, self.is_settled = name, count, False
 
     def call(self, m: Any, i: Any) -> Any:
-        """A call of memset or of settle, which reads the zeros."""
         self.is_settled |= self.program.target(i, OF_C) == "%s%d" % (functions.SETTLE, self.wanted)
         return super().call(m, i)
 
@@ -416,17 +341,13 @@ def show_scrub(program: programs.Program, name: str, count: int) -> None:
     """Shows, over a stack of secrets, that a scrub_stack overwrites its bytes with zeros, and nothing else."""
     T.reset()
     calls = Scrub(program, name, count)
-    sp, back = (T.var(64, t, T.PUBLIC) for t in ("sp", "return address"))
-    above = T.split(back) if program.kind == "x86_64" else []
-    stack = Cells(-STACK, len(above), lambda k: above[k] if k >= 0 else fresh(
-        "stack", T.SECRET)[0], True, (16, len(above)))
-    constants = Cells(0, 1 << 32, program.constant, False, (4096, 0))
-    m = Exact({image(): constants, sp: stack}, calls.cpu, (16, len(above)))
-    calls.cpu(m).start(sp, back, [])
-    m.secrets, m.is_kept = dict.fromkeys(range(-STACK, 0), False), lambda b: b != 0
-    try:
+
+    def follow_from(alignment: tuple) -> None:
+        m = Exact(program.memory(), calls.cpu, alignment)
+        calls.cpu(m).start([], STACK, lambda: fresh("stack", T.SECRET)[0])
+        m.secrets, m.is_kept = dict.fromkeys(range(-STACK, 0), False), lambda b: b != 0
+        calls.is_settled = False
         calls.run(name, m)
-    except T.Refused as e:
-        raise type(e)("%s: at %s: %s" % (name, calls.at and " ".join(calls.at.text.split()) or "the entry", e))
-    if not calls.is_settled:
-        raise IsWrong("settle is not called")
+        if not calls.is_settled:
+            raise IsWrong("settle is not called")
+    calls.at_alignments(lambda: name, follow_from)

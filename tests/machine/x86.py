@@ -8,7 +8,7 @@ from typing import Any, Callable
 import machine
 import terms as T
 from machine import (LEFT, ON_VECTORS, ON_WORDS, SECRET, UNKNOWN, Flags, Operand, Processor, chunks, image, joined,
-                     junk, need_public, no_rule, number, of_numbers, picked, total)
+                     junk, need_public, no_rule, number, of_numbers, picked)
 from terms import CannotShow, IsWrong
 
 RAX, RCX, RDX, RBX, RSP, RBP, RSI, RDI = range(8)
@@ -26,14 +26,14 @@ CONDITIONS = "e ne b ae a be s ns l le g ge o no".split()
 OF_CARRY, OF_OVERFLOW = ("b", "ae", "a", "be"), ("o", "no")
 NUMBER = re.compile(r"0x[0-9a-f]+|[0-9]+")
 NOP = re.compile(r"((data16|cs) +)*nop\b.*|xchg +ax,ax")
-ONE = Operand("number", value=1)
+ONE, FILE = Operand("number", value=1), Operand("file")        # a number, and the start of the file
 
 
 @functools.lru_cache(maxsize=None)
-def operand(text: str, target: int | None) -> Operand:
-    """The operand that this is: a register, memory as a sum of operands with factors, or a number. `target` is the
-    address of memory that counts from rip, which is in the file. A word of memory may be broadcast, to all words of a
-    vector. A mask register may choose the words of a vector that are written; the others are set to zero, or kept."""
+def operand(text: str) -> Operand:
+    """The operand that this is: a register, memory as a sum of operands with factors, or a number. A word of memory may
+    be broadcast, to all words of a vector. A mask register may choose the words of a vector that are written; the
+    others are set to zero, or kept."""
     if text in REGISTER:
         return REGISTER[text]
     if NUMBER.fullmatch(text):
@@ -43,12 +43,10 @@ def operand(text: str, target: int | None) -> Operand:
         o = REGISTER[m[1]]
         return Operand("vector", index=o.index, size=o.size, mask=int(m[2]), zeroes=bool(m[3]))
     m = re.fullmatch(r"(?:([A-Z]+) (PTR|BCST) )?\[(.*)\]", text)
-    is_in_file = bool(m and m[3].startswith("rip") and target is not None)
-    parts = [(1, Operand("number", value=target))] if is_in_file else of_address(m[3]) if m else None
+    parts = of_address(m[3]) if m else None
     if not m or not parts:
         raise CannotShow("the operand %s is not modelled: add it to tests/machine/x86.py" % text)
-    return Operand("memory", size=SIZES[m[1]] if m[1] else None, parts=parts, is_in_file=is_in_file,
-                   is_broadcast=m[2] == "BCST")
+    return Operand("memory", size=SIZES[m[1]] if m[1] else None, parts=parts, is_broadcast=m[2] == "BCST")
 
 
 def of_address(text: str) -> list | None:
@@ -58,8 +56,8 @@ def of_address(text: str) -> list | None:
         name, _, scale = piece.partition("*")
         if name in REGISTER and REGISTER[name].size == 8 and sign != "-":
             parts.append((int(scale or 1), REGISTER[name]))
-        elif NUMBER.fullmatch(piece):
-            parts.append((-1 if sign == "-" else 1, operand(piece, None)))
+        elif piece == FILE.kind or NUMBER.fullmatch(piece):
+            parts.append((-1 if sign == "-" else 1, FILE if piece == FILE.kind else operand(piece)))
         else:
             return None
     return parts
@@ -81,8 +79,8 @@ class Instruction(machine.Instruction):
                 raise CannotShow("it is not known where %s goes to" % self.text)
             self.target = int(m[1], 16)
         elif rest.strip():
-            target = int(comment.split()[0], 16) if comment.split() else None
-            self.operands = [operand(o.strip(), target) for o in rest.split(",")]
+            target = "[file+0x%s]" % comment.split()[0] if comment.split() else "[rip]"
+            self.operands = [operand(re.sub(r"\[rip\b.*\]", target, o.strip())) for o in rest.split(",")]
 
 
 # What instructions on words set, by two words: the kind of the flags, if they change, and the operation. Of an
@@ -213,7 +211,7 @@ MASK = re.compile(r"k(mov|or|and|shiftl|shiftr)([bwdq])")
 
 class X86(Processor):
     FILES = {"general": (16, 8), "vector": (REGISTERS, WIDTH)}
-    STACK_POINTER = "general", RSP
+    STACK_POINTER, BACK = ("general", RSP), 8
     ARGUMENTS: tuple = (RDI, RSI, RDX, RCX, 8, 9)
     SAVED = (RBX, RBP, 12, 13, 14, 15)
     # What a condition compares after `cmp`. Others are not followed: both ways may be taken.
@@ -225,27 +223,18 @@ class X86(Processor):
 
     # The calling convention.
 
-    def at_entry(self) -> tuple:
-        m = self.values
-        sp = m.stack_pointer()
-        return m.load(sp, 8), T.split(sp), joined(m.general[r] for r in self.SAVED)
-
-    def enter(self) -> T.Term:
-        """A call pushes the return address, to which it must return."""
-        self.check_stack()
-        link = self.values.new(64, "link")
+    def set_link(self, data: list) -> None:
         self.move_stack(-8)
-        self.values.store(self.values.stack_pointer(), T.split(link))
-        return link
+        self.values.store(self.values.stack_pointer(), data)
 
     def leave(self, link: T.Term) -> None:
-        """A return takes it from the stack."""
+        """A return takes the address from the stack."""
         if self.values.load(self.values.stack_pointer(), 8) != T.split(link):
             raise IsWrong("a call overwrites its return address")
         self.move_stack(8)
 
     def move_stack(self, n: int) -> None:
-        self.values.general[RSP] = T.split(T.add(64, (1, self.values.stack_pointer()), (1, T.const(64, n))))
+        self.values.general[RSP] = T.split(self.values.stack_pointer() + n)
         self.values.forget_below()
 
     def clobbered_vector(self, j: int, old: list, what: str) -> list:
@@ -265,8 +254,7 @@ class X86(Processor):
     # Operands.
 
     def address(self, o: Operand) -> T.Term:
-        parts = [(factor, T.word(self.read(part, 8))) for factor, part in o.parts]
-        return T.add(64, *parts, *[(1, image())] * o.is_in_file)
+        return T.add(64, *[(k, image() if part is FILE else T.word(self.read(part, 8))) for k, part in o.parts])
 
     def read(self, o: Operand, size: int | None = None, aligned: bool = False) -> list:
         if o.kind != "memory":
@@ -324,8 +312,7 @@ class X86(Processor):
         data = self.read(source)
         if len(data) != 8:
             raise i.unknown()
-        self.move_stack(-8)
-        self.values.store(self.values.stack_pointer(), data)
+        self.set_link(data)
 
     def pop(self, i: Instruction, to: Operand) -> None:
         data = self.values.load(self.values.stack_pointer(), 8)
@@ -360,7 +347,7 @@ class X86(Processor):
     def add_and_keep_carry(self, i: Instruction, to: Operand) -> None:
         """inc and dec keep the carry, which may be that of a secret."""
         old = self.values.flags
-        self.arithmetic("other", lambda a, b: total(a, b, KEEP_CARRY[i.name]), to, ONE)
+        self.arithmetic("other", lambda a, b: a + KEEP_CARRY[i.name] * b, to, ONE)
         now = self.values.flags
         if old.kind in (UNKNOWN, SECRET, "no carry") and now.kind != SECRET:
             self.values.flags = now._replace(kind="no carry")
@@ -375,7 +362,7 @@ class X86(Processor):
         if self.values.flags.kind in (UNKNOWN, SECRET, "no carry"):
             raise CannotShow("a carry depends on flags that are not public")
         carry = T.word([self.values.bit(self.compared("b"))] + [0] * (to.size - 1))
-        self.arithmetic("other", lambda a, b: T.add(a.w, (1, a), (sign, b), (sign, carry)), to, source)
+        self.arithmetic("other", lambda a, b: a + sign * b + sign * carry, to, source)
 
     def of_public(self, i: Instruction, *ops: Operand) -> None:
         """A product or a division, whose operands must be public. One of bytes, into ax, is not modelled."""
@@ -419,7 +406,7 @@ class X86(Processor):
         old = chunks([0] * to.size if to.zeroes else self.values.vector[to.index][:to.size], n)
         address, data = self.address(source), []
         for k, bit in enumerate(self.values.masks[to.mask][:to.size // n]):
-            at = T.add(64, (1, address), (1, T.const(64, step * k)))
+            at = address + step * k
             data += old[k] if bit == 0 else chosen(bit, self.values.load(at, n), old[k])
         self.write(to, data, True)
 

@@ -66,7 +66,7 @@ def admits(kind: Kind, xof_length: Any, *others: Any) -> list:
 def init(a: Any, kind: Kind, xof_length: Any, key: Any, key_size: Any, salt: Any = S.nothing, salt_size: Any = 0,
          persona: Any = S.nothing, persona_size: Any = 0) -> State:
     """The root hash has the longest digest, and the length of the output in its node offset."""
-    tree = (1, 1, 0, a.times(1 << 32, xof_length), 0, 0)
+    tree = (1, 1, 0, (1 << 32) * xof_length, 0, 0)
     root = S.init(a, kind, kind.w, key, key_size, salt, salt_size, persona, persona_size, tree)
     texts = S.padded(a, salt, salt_size, kind.w // 4) + S.padded(a, persona, persona_size, kind.w // 4)
     return zeros(kind).but(**vars(root), xof_length=xof_length, texts=texts)
@@ -84,16 +84,16 @@ def begin(a: Any, kind: Kind, s: State, is_reading: bool) -> State:
 
 def squeeze(a: Any, kind: Kind, s: State, n: Any, is_reading: bool) -> State:
     """The state after a read of n bytes. The output has those of stream() from the position on."""
-    return begin(a, kind, s, is_reading).but(position=a.plus(s.position, n))
+    return begin(a, kind, s, is_reading).but(position=s.position + n)
 
 
 def stream(a: Any, kind: Kind, s: State, is_known: bool) -> Callable:
     """The blocks of the output, by their numbers. Each is the hash of the root hash, without a key, and with
     parameters of its own; the last one may be shorter, so its length has less than a block."""
     def block(i: Any) -> list:
-        left = a.minus(output_length(kind, s.xof_length, is_known), a.times(kind.w, i))
+        left = output_length(kind, s.xof_length, is_known) - kind.w * i
         size = left if a.holds("<", left, kind.w) else kind.w
-        tree = (0, 0, kind.w, a.plus(i, a.times(1 << 32, s.xof_length)), 0, kind.w)
+        tree = (0, 0, kind.w, i + (1 << 32) * s.xof_length, 0, kind.w)
         first = S.from_block(a, kind, S.parameter_block(a, kind, size, 0, tree, s.texts), size)
         return S.digest(a, kind, first.but(pending=s.root + [0] * (kind.block - kind.w), pending_length=kind.w))
     return block
