@@ -103,12 +103,13 @@ def is_all(path, family, is_long):
 
 def show_call(path, family, end, *numbers):
     """The cases of a call, with some numbers or all."""
-    call_cases.cases(programs.read(path), family, *numbers).show(end)
+    call_cases.cases(programs.read(path), family, *numbers).prove_export(end)
 
 
 def tasks_of(path, is_long):
     """The parts of the proof of a text."""
-    names = [n for n in call_cases.names(programs.read(path)) if n in EXPORTS and (is_long or family_of(n)[0] in QUICK)]
+    names = [n for n in call_cases.shown_names(programs.read(path))
+             if n in EXPORTS and (is_long or family_of(n)[0] in QUICK)]
     for name in names:
         family, end = family_of(name)
         show = partial(show_call, path, family, end)
@@ -116,10 +117,12 @@ def tasks_of(path, is_long):
             pending = range(call_cases.KINDS[family].block + 1)
             yield from (Task(path, [name], partial(show, pending[k::4])) for k in range(4))
         else:
-            yield Task(path, [name], show if is_all(path, family, is_long) else partial(show, *call_cases.some(family)))
+            numbers = () if is_all(path, family, is_long) else call_cases.short_form_numbers(family)
+            yield Task(path, [name], partial(show, *numbers))
     yield from compressions_of(path, names, is_long)
     compress = [n for n in names if family_of(n)[0]]       # memcmp and wipe do not
-    for show, calls in (check.scrub, compress), (check.search, compress), (check.look, names):
+    for show, calls in ((check.prove_scrub_stacks, compress), (check.find_unlisted_functions, compress),
+                        (check.check_whole_file, names)):
         if calls:
             yield Task(path, calls, partial(show, path))
 
@@ -130,7 +133,7 @@ def compressions_of(path, names, is_long):
         _, kind, lanes = function
         calls = [n for n in names if family_of(n)[0] and call_cases.KINDS.get(family_of(n)[0]) is kind]
         if calls and (lanes == 1 or is_long):
-            yield Task(path, calls, partial(check.compress, path, *function))
+            yield Task(path, calls, partial(check.prove_one_compression, path, *function))
 
 
 def try_all(tasks):
@@ -146,7 +149,7 @@ def try_all(tasks):
 def how_shown(path, name, is_long):
     """What is said of a call if nothing fails."""
     family, end = family_of(name)
-    if functions.architecture(path) == "wasm" or name not in call_cases.names(programs.read(path)):
+    if functions.architecture(path) == "wasm" or name not in call_cases.shown_names(programs.read(path)):
         return ONLY_TESTED
     if not is_long and family not in QUICK:
         return LATER
@@ -253,7 +256,7 @@ def verify(name, is_long):
 
 def main(arguments):
     """Reads the arguments. Returns the status."""
-    facts.run_with_z3(__file__, arguments)
+    facts.rerun_with_debian_python(__file__, arguments)
     parser = argparse.ArgumentParser("verify", description=__doc__, formatter_class=argparse.RawTextHelpFormatter)
     parser.add_argument("--long", action="store_true", help="all texts and all cases")
     parser.add_argument("--call", metavar="CALL", choices=[n.removeprefix(call_cases.PREFIX) for n in EXPORTS])

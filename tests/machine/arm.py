@@ -6,8 +6,8 @@ from typing import Any
 
 import machine
 import terms as T
-from machine import (ON_VECTORS, ON_WORDS, Operand, Processor, bitwise, chunks, image, joined, lanewise, need_public,
-                     no_rule, number, picked)
+from machine import (ON_VECTORS, ON_WORDS, Operand, Processor, bitwise, chunks, joined, lanewise, load_address,
+                     need_public, no_rule, number, picked)
 from terms import CannotShow, IsWrong
 
 SP, ZERO, LINK, PLATFORM = 31, 32, 30, 18
@@ -18,7 +18,6 @@ BITWISE = {"eor": "xor", "orr": "or", "and": "and"}
 
 
 def register(text: str) -> int:
-    """The number of a register."""
     if text == str(PLATFORM):
         raise IsWrong("x18 belongs to the platform")
     return ZERO if text == "zr" else int(text)
@@ -26,7 +25,6 @@ def register(text: str) -> int:
 
 @functools.lru_cache(maxsize=None)
 def operand(text: str) -> Operand:
-    """The operand that this is."""
     return next(make(m) for pattern, make in OPERANDS for m in [re.fullmatch(pattern, text)] if m)
 
 
@@ -59,7 +57,7 @@ class Instruction(machine.Instruction):
 
     JUMP, CALL, TRAP = "b", "bl", "brk"
 
-    def read(self) -> None:
+    def parse_text(self) -> None:
         self.name, _, rest = self.text.partition("//")[0].strip().partition("\t")
         jump = re.fullmatch(r"(.*?)(?:, )?\b([0-9a-f]+) <.*>", rest.strip())
         if jump:
@@ -81,7 +79,8 @@ WORDS: dict = {
     **ON_WORDS, **{name: ON_WORDS[other] for name, other in (
         ("orr", "or"), ("eor", "xor"), ("mvn", "not"), ("lsl", "shl"), ("lsr", "shr"), ("madd", "mul"),
         ("msub", "mul"))},
-    "ror": lambda m, a, b: T.ror(a.w, a, b.args), "ubfiz": lambda m, a, b, size: m.bitfield(a, b.args, size.args),
+    "ror": lambda m, a, b: T.ror(a.w, a, b.args),
+    "ubfiz": lambda m, a, b, size: m.low_bits_shifted_left(a, b.args, size.args),
     "umulh": lambda m, a, b: None, "udiv": lambda m, a, b: None,
 }
 SHIFTS = ("lsl", "lsr", "ror")
@@ -102,15 +101,15 @@ SELECTS: dict = {
 }
 
 
-def accumulate(n: int, old: list, data: list, k: int) -> list:
+def shift_right_and_add(n: int, old: list, data: list, k: int) -> list:
     """Adds words that are shifted to the right. If no bits overlap, the sum is the same as or."""
-    add = lambda a, b: T.rotation(a.w, a, b) or T.disjoint(a, b) or a + b
+    add = lambda a, b: T.rotation_of_shifted(a.w, a, b) or T.combine_disjoint_bytes(a, b) or a + b
     return lanewise(add, n, old, ON_VECTORS["shr"](n, data, k))
 
 
 # What instructions make of parts of n bytes of vectors, and of a number.
 VECTORS: dict = {
-    "add": ON_VECTORS["add"], "shl": ON_VECTORS["shl"], "usra": accumulate,
+    "add": ON_VECTORS["add"], "shl": ON_VECTORS["shl"], "usra": shift_right_and_add,
     **dict.fromkeys(("uqsub", "cmhi", "cmeq", "addv", "umaxv", "bic", "orn", "mvn"), no_rule),
     "zip1": lambda n, a, b: joined(x + y for x, y in zip(chunks(a, n), chunks(b, n))),
     "zip2": lambda n, a, b: VECTORS["zip1"](n, a[len(a) // 2:], b[len(b) // 2:]),
@@ -145,13 +144,13 @@ class Arm(Processor):
 
     # The calling convention.
 
-    def set_link(self, data: list) -> None:
+    def set_return_address(self, data: list) -> None:
         """The register belongs to the call."""
         self.values.general[LINK] = data
 
     def clobbered_vector(self, j: int, old: list, what: str) -> list:
         start = 8 if j in self.SAVED_HALVES else 0
-        return old[:start] + self.values.lost(16 - start, what)
+        return old[:start] + self.values.leftover_bytes(16 - start, what)
 
     # Operands.
 
@@ -169,13 +168,13 @@ class Arm(Processor):
             raise CannotShow("the result does not fit its operand")
         if o.kind == "general":
             if o.index != ZERO:
-                self.values.general[o.index] = self.values.cleaned(data + [0] * (8 - o.size), True)
+                self.values.general[o.index] = self.values.bytes_to_store(data + [0] * (8 - o.size), True)
             return
         old = self.values.vector[o.index] if o.start is not None else [0] * 16
         start = o.start or 0
-        self.values.vector[o.index] = old[:start] + self.values.cleaned(data, False) + old[start + o.size:]
+        self.values.vector[o.index] = old[:start] + self.values.bytes_to_store(data, False) + old[start + o.size:]
 
-    def place_of(self, m: Operand) -> T.Term:
+    def access_address(self, m: Operand) -> T.Term:
         """The address of an access, before which the base register may move."""
         base = T.word(self.read(m.base))
         if m.base.index == SP and T.linear(base)[0] % 16:
@@ -196,18 +195,19 @@ class Arm(Processor):
 
     # Conditions.
 
-    def condition(self, i: Instruction) -> tuple | None:
+    def comparison_of_jump(self, i: Instruction) -> tuple | None:
         if i.name in ("cbz", "cbnz", "tbz", "tbnz"):
             data = self.read(i.operands[0])
             need_public(T.word(data), "a branch")
             if i.name.startswith("tb"):
                 at = i.operands[1].value
-                data = self.quietly(self.values.masked, [self.values.norm(data[at // 8])], [1 << at % 8])
+                data = [self.values.normalized_byte(data[at // 8])]
+                data = self.compute_without_flags(self.values.bitwise_and, data, [1 << at % 8])
             t = T.word(data)
             return "==" if i.name.endswith("bz") else "!=", t, T.const(t.w, 0)
         if i.name[2:] not in CONDITIONS or i.name[:2] != "b.":
-            raise i.unknown()
-        return None if self.values.flags.kind == "ccmp" else self.branched(i.name[2:])
+            raise i.not_modelled_error()
+        return None if self.values.flags.kind == "ccmp" else self.public_comparison(i.name[2:])
 
     def step(self, i: Instruction) -> None:
         name, ops = i.name, i.operands
@@ -215,21 +215,21 @@ class Arm(Processor):
             return
         kind = name.rstrip("bh") if name.endswith(("rb", "rh")) else name
         if kind in LOADS + STORES:
-            self.transfer(name, kind, ops)
+            self.load_or_store(name, kind, ops)
         elif name in ("ld1", "ld1r", "ld4", "st1") and len(ops) == 2:
-            self.transfer_lanes(i, *ops)
+            self.load_or_store_lanes(i, *ops)
         elif name == "ccmp":
-            self.values.compare_again(self.read(ops[0]), self.read(ops[1], ops[0].size))
+            self.values.conditional_compare(self.read(ops[0]), self.read(ops[1], ops[0].size))
         elif ops:
-            data = self.of_words(name, ops) if ops[0].kind == "general" else self.of_vectors(name, ops)
+            data = self.word_result(name, ops) if ops[0].kind == "general" else self.vector_result(name, ops)
             if data is None:
-                raise i.unknown()
+                raise i.not_modelled_error()
             if name not in ONLY_FLAGS:
                 self.write(ops[0], data)
         else:
-            raise i.unknown()
+            raise i.not_modelled_error()
 
-    def transfer(self, name: str, kind: str, ops: list) -> None:
+    def load_or_store(self, name: str, kind: str, ops: list) -> None:
         """A load or a store of one register, or of two of one size."""
         registers = ops[:-1]
         if len({r.size for r in registers}) != 1 or len(registers) != 1 + kind.endswith("p"):
@@ -240,7 +240,7 @@ class Arm(Processor):
             raise CannotShow("what a %s does whose registers are the same differs between processors" % name)
         size = WIDTHS.get(name[-1], registers[0].size)
         data = [self.read(r)[:size] for r in registers]
-        at = self.place_of(ops[-1])
+        at = self.access_address(ops[-1])
         if kind in STORES:
             self.values.store(at, joined(data))
         else:
@@ -249,16 +249,16 @@ class Arm(Processor):
                 self.write(r, part + [0] * (r.size - size))
         self.move_base(ops[-1])
 
-    def transfer_lanes(self, i: Instruction, to: Operand, memory: Operand) -> None:
+    def load_or_store_lanes(self, i: Instruction, to: Operand, memory: Operand) -> None:
         """A load or a store of one lane, a load of all lanes, or of four vectors whose lanes alternate."""
         m = re.fullmatch(r"\{v(\d+)\.2d-v(\d+)\.2d\}", to.text or "")
         if not (m if i.name == "ld4" else to.n and (i.name == "ld1r") == (to.start is None)):
-            raise i.unknown()
-        at = self.place_of(memory)
+            raise i.not_modelled_error()
+        at = self.access_address(memory)
         if m:
             parts = chunks(self.values.load(at, 64), 8)
             for k in range(4):
-                self.values.vector[int(m[1]) + k] = self.values.cleaned(parts[k] + parts[4 + k], False)
+                self.values.vector[int(m[1]) + k] = self.values.bytes_to_store(parts[k] + parts[4 + k], False)
         elif i.name == "st1":
             self.values.store(at, self.read(to))
         else:
@@ -267,23 +267,23 @@ class Arm(Processor):
 
     # What instructions on words and on vectors write, or None if they are not known.
 
-    def of_words(self, name: str, ops: list) -> list | None:
+    def word_result(self, name: str, ops: list) -> list | None:
         to, size = ops[0], ops[0].size
         if ops[-1].kind == "shift" and name != "movk":
             ops = ops[:-2] + [self.shifted(ops[-2], ops[-1], size)]
         if name in SELECTS and ops[-1].text in CONDITIONS:
-            compared, data = self.compared(ops[-1].text), [self.read(o, size) for o in ops[1:-1]]
+            compared, data = self.comparison_of_condition(ops[-1].text), [self.read(o, size) for o in ops[1:-1]]
             if name == "cset":
                 return [self.values.bit(compared)] + [0] * (size - 1)
             return self.values.chosen(compared, *SELECTS[name](size, *data))
         if name in SETS_FLAGS or name in WORDS:
-            return self.compute(name, ops)
+            return self.arithmetic_result(name, ops)
         if name == "adrp":
-            return T.split(image() + ops[1].value)
+            return T.split(load_address() + ops[1].value)
         if name in ("mov", "fmov", "umov"):
             return (self.read(ops[1], size) + [0] * size)[:size]
         if name in ("sxth", "sxtw"):
-            return self.values.extended(self.read(ops[1])[:WIDTHS[name[-1]]], size)
+            return self.values.sign_extended(self.read(ops[1])[:WIDTHS[name[-1]]], size)
         if name in ("bfi", "bfxil") and ops[2].value % 8 == ops[3].value % 8 == 0:
             k, n, old = ops[2].value // 8, ops[3].value // 8, self.read(to)
             k, start = (k, 0) if name == "bfi" else (0, k)
@@ -298,13 +298,13 @@ class Arm(Processor):
         """An operand that is shifted, or whose low bytes are a number with a sign."""
         k = shift.count
         if shift.n:
-            return Operand("value", data=self.values.extended(self.read(o)[:shift.n], size))
+            return Operand("value", data=self.values.sign_extended(self.read(o)[:shift.n], size))
         if o.kind == "number":
             return Operand("number", value=o.value << k)
-        return Operand("value", data=self.quietly(
+        return Operand("value", data=self.compute_without_flags(
             lambda a, b: WORDS[shift.name](self.values, a, T.const(a.w, k)), self.read(o, size), [0] * size))
 
-    def compute(self, name: str, ops: list) -> list | None:
+    def arithmetic_result(self, name: str, ops: list) -> list | None:
         """What an instruction of WORDS makes, perhaps with flags."""
         m, size = self.values, ops[0].size
         operation, flags = SETS_FLAGS.get(name, (name, None))
@@ -316,13 +316,13 @@ class Arm(Processor):
         a, b, *rest = [self.read(o, size) for o in sources] + [[0] * size] * (len(sources) < 2)
         if name in PRODUCTS:
             need_public(T.word(a + b), "the time of a product or a division")
-        a = m.kept_by(a, b) if operation == "and" else a
+        a = m.apply_mask_to_secrets(a, b) if operation == "and" else a
         words = [] if name in ADDS else list(map(T.word, rest))
         f = lambda x, y: WORDS[operation](m, x, y, *words)
-        data = m.computed(flags, f, a, b) if flags else self.quietly(f, a, b)
-        return self.quietly(lambda x, y: x + ADDS[name] * y, rest[0], data) if name in ADDS else data
+        data = m.compute_and_set_flags(flags, f, a, b) if flags else self.compute_without_flags(f, a, b)
+        return self.compute_without_flags(lambda x, y: x + ADDS[name] * y, rest[0], data) if name in ADDS else data
 
-    def of_vectors(self, name: str, ops: list) -> list | None:
+    def vector_result(self, name: str, ops: list) -> list | None:
         to, m = ops[0], self.values
         n, numbers = to.n or to.size, [o.value for o in ops[1:] if o.kind == "number"]
         data = [self.read(o) for o in ops[1:] if o.kind in ("general", "vector")]
@@ -330,19 +330,20 @@ class Arm(Processor):
             is_zero = name == "eor" and ops[1].index == ops[2].index
             return [0] * to.size if is_zero else m.combined(BITWISE[name], *data)
         if name in ("bit", "bif", "bsl"):
-            return [self.inserted(name, *p) for p in zip(self.read(to), *data)]
+            return [self.insert_by_mask(name, *p) for p in zip(self.read(to), *data)]
         if name == "movi" and (len(ops) > 2 or numbers[0] and (n == 8 or not 0 <= numbers[0] < 256)) or (
                 name in ("shl", "usra") and not 0 < numbers[0] < 8 * n) or name not in VECTORS:
             return None                # a number that is shifted, or of all bits of each byte
         if name in ACCUMULATES:
             data = [self.read(to)] + data
-        return self.made(name not in COMPUTES, lambda *sources: VECTORS[name](n, *sources, *numbers), data)[:to.size]
+        f = lambda *sources: VECTORS[name](n, *sources, *numbers)
+        return self.apply_vector_operation(name not in COMPUTES, f, data)[:to.size]
 
-    def inserted(self, name: str, old: T.Byte, x: T.Byte, y: T.Byte) -> T.Byte:
+    def insert_by_mask(self, name: str, old: T.Byte, x: T.Byte, y: T.Byte) -> T.Byte:
         """A byte of which bits are chosen by a mask: exactly if the mask has all or none."""
         mask = old if name == "bsl" else y
         if mask not in (0, 255):
-            return self.values.vector_of(no_rule, [old, x, y])[0]
+            return self.values.vector_result_or_unknown(no_rule, [old, x, y])[0]
         is_x = (mask == 255) != (name == "bif")
         return x if is_x else y if name == "bsl" else old
 

@@ -47,9 +47,7 @@ class NoMatch(Exception):
     """The old instruction is not in the function as often as the table says."""
 
 
-class Row(NamedTuple):
-    """A change of the code."""
-
+class CodeChange(NamedTuple):
     path: str
     function: str
     number: int
@@ -59,31 +57,31 @@ class Row(NamedTuple):
     is_run: bool = False               # whether the text also differs when it is run
 
     def title(self) -> str:
-        return "%s: %s, %s: %s => %s" % ("not called wrong" if self.is_right() else "refused", self.path,
+        return "%s: %s, %s: %s => %s" % ("not called wrong" if self.is_correct_code() else "refused", self.path,
                                          self.function, self.old, self.new or "nothing")
 
-    def is_right(self) -> bool:
+    def is_correct_code(self) -> bool:
         return self.function.startswith("right ")
 
-    def target(self) -> tuple:
+    def function_and_prover(self) -> tuple:
         """The function to change, and the function that shows what the change breaks, with its arguments."""
         what, _, rest = self.function.partition(" ")
         export, _, name = rest.partition(" ")
         if what == "scrub":
             scrub = functions.SCRUB_STACK + export
-            return name or scrub, whole_calls.show_scrub, (scrub, int(export))
+            return name or scrub, whole_calls.prove_scrub_stack, (scrub, int(export))
         if what == "file":
-            return "", look, ()
+            return "", check_sections_and_calls, ()
         if what in ("call", "whole", "right"):
             export = call_cases.PREFIX + export
-            return name or export, show_call if what == "call" else call_cases.show, (export,)
+            return name or export, follow_export if what == "call" else call_cases.prove_some_cases, (export,)
         name, *entry = ENTRIES[self.function.removesuffix(" data")]
-        name = functions.in_file(self.path, name)
-        return name, compression.show, (name, *entry)
+        name = functions.name_in_file(self.path, name)
+        return name, compression.prove_compression, (name, *entry)
 
-    def cut(self, source: Any) -> tuple:
+    def split_source(self, source: Any) -> tuple:
         """What precedes the lines to change, these, and what follows: of a function, of its constants, or of all."""
-        name = self.target()[0]
+        name = self.function_and_prover()[0]
         if isinstance(source, dict) or not name:
             return "", source[name] if name else source.split("\n"), ""
         labels = re.finditer(r'%s_\d+_[a-z0-9]+"?:.*\n' % re.escape(name), source)
@@ -95,15 +93,17 @@ class Row(NamedTuple):
             first, last = source.rfind("\n\t.size\t", 0, first) + 1, source.rfind("\n", 0, first - 1) + 1
         return source[:first], source[first:last].split("\n"), source[last:]
 
-    def edit(self, source: Any) -> Any:
+    def apply_to_source(self, source: Any) -> Any:
         """An assembly text, or the functions of a module, with the change."""
-        before, lines, after = self.cut(source)
-        lines = self.changed(lines)
-        return {**source, self.target()[0]: lines} if isinstance(source, dict) else before + "\n".join(lines) + after
+        before, lines, after = self.split_source(source)
+        lines = self.apply_to_lines(lines)
+        if isinstance(source, dict):
+            return {**source, self.function_and_prover()[0]: lines}
+        return before + "\n".join(lines) + after
 
-    def changed(self, lines: list) -> list:
+    def apply_to_lines(self, lines: list) -> list:
         """The lines with the change at the match of its number, counted from 1."""
-        clean, old = cleaned(lines), re.compile(self.old)
+        clean, old = without_comments(lines), re.compile(self.old)
         exact = [k for k, text in enumerate(clean) if text == self.old]
         found = exact or [*filter(lambda k: old.fullmatch(clean[k]), range(len(clean)))]
         if len(found) < self.number:
@@ -116,129 +116,129 @@ class Row(NamedTuple):
             raise NoMatch("the change of %r changes nothing" % clean[at])
         return lines[:at] + [part for part in text.split("; ") if part] + lines[at + 1:]
 
-    def check(self) -> tuple:
+    def check_is_refused(self) -> tuple:
         """Whether the change is refused as it must be: a verdict, and why."""
-        name, show, arguments = self.target()
+        name, show, arguments = self.function_and_prover()
         try:
-            program = programs.Program(self.path, self.edit)
-            if show is compression.show and program.content(name) == programs.read(self.path).content(name):
+            program, original = programs.Program(self.path, self.apply_to_source), programs.read(self.path)
+            if show is compression.prove_compression and program.content_hash(name) == original.content_hash(name):
                 return "not ok", "the proof of the old code would be taken for this one"
             show(program, *arguments)
         except NoMatch as e:
             return "not ok", "change this line of mutations.txt: %s" % e
         except programs.NotAssembled as e:
             return "not ok", "the assembler refuses the new instruction: %s" % e
-        except T.Refused as e:
-            is_ok = not self.is_right() or isinstance(e, T.CannotShow)
+        except T.ClaimNotShown as e:
+            is_ok = not self.is_correct_code() or isinstance(e, T.CannotShow)
             return "ok" if is_ok else "not ok", "%s: %s" % (e.kind, e)
-        return "ok" if self.is_right() else "not ok", "the proof accepts the change"
+        return "ok" if self.is_correct_code() else "not ok", "the proof accepts the change"
 
 
-def cleaned(lines: list) -> list:
+def without_comments(lines: list) -> list:
     """Lines with single spaces, and without comments."""
     return [" ".join(COMMENT.sub("", line).split()) for line in lines]
 
 
-def table() -> list:
-    """The changes of the table."""
+def table_changes() -> list:
     found = []
     with open(TABLE) as f:
         for line in f:
             if not line.startswith(("#", "\n")):
                 marks, rest = re.fullmatch(r"([+*]*) *(.*)\n", line).groups()    # type: ignore[union-attr]
                 files, name, number, old, new = re.split(r" \|(?: |$)", rest, maxsplit=4)
-                found += [Row(FILES[file], name, int(number), old.strip(), new.strip(), "+" in marks and k == 0,
-                              "*" in marks) for k, file in enumerate(files.split())]
+                found += [CodeChange(FILES[file], name, int(number), old.strip(), new.strip(), "+" in marks and k == 0,
+                                     "*" in marks) for k, file in enumerate(files.split())]
     return found
 
 
-def check_table() -> tuple:
+def check_changes_apply() -> tuple:
     """Whether each change of the table can be made: a verdict, and why."""
-    rows = table()
+    rows = table_changes()
     for row in rows:
         try:
-            row.edit(programs.source(row.path))
+            row.apply_to_source(programs.editable_source(row.path))
         except (NoMatch, KeyError) as e:
             return "not ok", "%s: %s" % (row.title(), e)
     return "ok", "%d changes" % len(rows)
 
 
-def check_unchanged() -> tuple:
+def check_unchanged_is_accepted() -> tuple:
     """Whether the calls whose changes are refused are accepted without them: a verdict, and how many there are."""
-    calls = {(row.path, row.target()[2][0]) for row in table() if row.target()[1] is show_call}
+    targets = [(row.path, *row.function_and_prover()) for row in table_changes()]
+    calls = {(path, arguments[0]) for path, _, show, arguments in targets if show is follow_export}
     for path, exported in sorted(calls):
-        show_call(programs.read(path), exported)
+        follow_export(programs.read(path), exported)
     return "ok", "%d calls" % len(calls)
 
 
-def show_call(program: programs.Program, exported: str) -> None:
-    """Follows a call of an exported function."""
+def follow_export(program: programs.Program, exported: str) -> None:
     for entry in constant_time.exports(program):
         if entry[0] == exported:
-            constant_time.follow(program, entry)
+            constant_time.follow_call_or_skip(program, entry)
 
 
-def look(program: programs.Program) -> None:
+def check_sections_and_calls(program: programs.Program) -> None:
     """What is looked at in all of a file: sections, symbols, and which functions are called."""
     list(constant_time.exports(program))
     for name, _, _ in functions.FILES[program.path]:
-        program.code(name)
+        program.instructions_of(name)
 
 
-def random_changes(path: str, function: str) -> Iterator[Row]:
+def random_changes(path: str, function: str) -> Iterator[CodeChange]:
     """Changes of random instructions of a function: each becomes another of the same name, or is left out."""
-    row, kind = Row(path, function, 1, "", ""), functions.architecture(path)
-    texts = cleaned(row.cut(programs.source(path))[1])
+    row, kind = CodeChange(path, function, 1, "", ""), functions.architecture(path)
+    texts = without_comments(row.split_source(programs.editable_source(path))[1])
     names = {k: text.split()[0] for k, (text, next_text) in enumerate(zip(texts, texts[1:] + [""]))
              if text and not FIXED.search(text) and not ONE_OPERAND.fullmatch(next_text)}
     for seed in range(COUNT):
-        rng = random.Random("%s %s %d" % (path, row.target()[0], seed))
+        rng = random.Random("%s %s %d" % (path, row.function_and_prover()[0], seed))
         others: set = set()
         while not others:
             name = rng.choice(sorted(set(names.values())))
             alike = [k for k in names if names[k] == name]
             k = rng.choice(alike)
             others = {""} if kind != "wasm" and seed % 2 else {texts[j] for j in alike} - {texts[k]}
-        yield Row(path, function, texts[:k + 1].count(texts[k]), texts[k], rng.choice(sorted(others)))
+        yield CodeChange(path, function, texts[:k + 1].count(texts[k]), texts[k], rng.choice(sorted(others)))
 
 
-def check_random(path: str, entry: tuple) -> tuple:
+def check_random_are_refused(path: str, entry: tuple) -> tuple:
     """Whether random changes of a function that compresses are refused: a verdict, and why."""
     function, wrong = next(name for name in ENTRIES if ENTRIES[name] == entry), 0
     for k, row in enumerate(random_changes(path, function)):
-        verdict, why = row.check()
+        verdict, why = row.check_is_refused()
         if verdict != "ok" and (path, function, k) not in NEUTRAL:
             return verdict, "%d: %s: %s" % (k, row.title(), why)
         wrong += why.startswith("is wrong")
     return "ok", "%d changes, %d of them are wrong for known inputs" % (COUNT, wrong)
 
 
-def check_branches(path: str, k: int) -> tuple:
+def check_branches_are_refused(path: str, k: int) -> tuple:
     """Whether a branch on argument k, where it is secret, is refused in taint tracking and in whole calls."""
     kind, count = functions.architecture(path), 0
     branch = BRANCH[kind] % REGISTERS[kind][k]
     program = programs.Program(path, lambda text: re.sub(
         r'^"?vulfsjor_ffi_\w+"?:.*\n', lambda m: m[0] + branch, text, flags=re.M))
-    shown = call_cases.names(program)
+    shown = call_cases.shown_names(program)
     for entry in constant_time.exports(program):
         places = joined([place, None] if place in constant_time.BUFFERS else [place] for place in entry[1])
         if not set(places[k:k + 1]) & set(SECRET):
             continue
-        ways: list[tuple[Callable, tuple]] = [(constant_time.show, entry)] * (path not in constant_time.NOT_FOLLOWED)
+        is_followed = path not in constant_time.NOT_FOLLOWED
+        ways: list[tuple[Callable, tuple]] = [(constant_time.follow_call, entry)] * is_followed
         if entry[0] in shown and k == 0 and places[0] == constant_time.STATE:
-            ways.append((call_cases.show, entry[:1]))
+            ways.append((call_cases.prove_some_cases, entry[:1]))
         for show, arguments in ways:
             try:
                 show(program, *arguments)
                 return "not ok", "%s may branch on argument %d" % (entry[0], k)
-            except T.Refused as e:
+            except T.ClaimNotShown as e:
                 if isinstance(e, T.CannotShow) or "secret" not in str(e):
                     return "not ok", "it is refused for another reason: %s" % e
                 count += 1
     return "ok", "%d branches" % count
 
 
-class Planted(NamedTuple):
+class PlantedFault(NamedTuple):
     """An attribute that gets a wrong value, made from the right one, and the test that must see it, or refuse."""
 
     title: str
@@ -249,7 +249,7 @@ class Planted(NamedTuple):
     arguments: tuple = ()
     is_long: bool = False
 
-    def show(self) -> tuple:
+    def check_is_seen(self) -> tuple:
         """Whether it is seen: a verdict, and why."""
         right = self.owner.__dict__[self.name]
         setattr(self.owner, self.name, self.wrong(right))
@@ -264,30 +264,33 @@ class Planted(NamedTuple):
 
 
 ARM, V3 = FILES["arm"], FILES["v3"]
-_Taint, _X86, S = constant_time.Taint, programs.x86.X86, check_paths.S
+_Taint, _X86, S = constant_time.TaintState, programs.x86.X86, check_paths.S
 PLANTED = (
-    Planted("an operation that forgets secrets", _Taint, "mixed", lambda _: (
-        lambda self, data: taint.UNKNOWN_BYTE), check_instructions.check, (ARM, "T", 2), True),
-    Planted("a carry that inc sets", _X86, "add_and_keep_carry", lambda _: (
-        lambda self, i, to: self.arithmetic("other", lambda a, _: a + programs.x86.KEEP_CARRY[i.name], to,
-                                            programs.x86.ONE)), check_instructions.check, (V3, "T", 6), True),
-    Planted("a sum whose range is that of one of two paths that meet", _Taint, "relate", lambda right: (
-        lambda self, m, _, visits, *words: right(self, m, m, visits, *words[:2], words[1])),
-            check_numbers.check_secrets, (200,)),
-    Planted("a range that begins between two steps", taint, "aligned", lambda _: (
-        lambda low, high, start, step: (low, high, step)), check_numbers.check_secrets, (200,)),
-    Planted("a test of the models that leaves out a form", check_instructions, "chosen", lambda right: (
-        lambda *arguments: (right(*arguments)[0], [t for t in right(*arguments)[1] if not t[0].startswith("usra")])),
-            check_instructions.check, (ARM, "W", 1), True),
-    Planted("a specification without the flag of the last block", S, "digest", lambda _: (
+    PlantedFault("an operation that forgets secrets", _Taint, "byte_depending_on", lambda _: (
+        lambda self, data: taint.UNKNOWN_BYTE), check_instructions.check_model_agrees, (ARM, "T", 2), True),
+    PlantedFault("a carry that inc sets", _X86, "add_and_keep_carry", lambda _: (
+        lambda self, i, to: self.compute_and_write("other", lambda a, _: a + programs.x86.KEEP_CARRY[i.name], to,
+                                                   programs.x86.ONE)),
+                 check_instructions.check_model_agrees, (V3, "T", 6), True),
+    PlantedFault("a sum whose range is that of one of two paths that meet", _Taint, "learn_joined_range",
+                 lambda right: (lambda self, m, _, visits, *words: right(self, m, m, visits, *words[:2], words[1])),
+                 check_numbers.check_taint_ranges, (200,)),
+    PlantedFault("a range that begins between two steps", taint, "align_range_to_step", lambda _: (
+        lambda low, high, start, step: (low, high, step)), check_numbers.check_taint_ranges, (200,)),
+    PlantedFault("a test of the models that leaves out a form", check_instructions, "choose_instructions",
+                 lambda right: (lambda *arguments: (
+                     right(*arguments)[0], [t for t in right(*arguments)[1] if not t[0].startswith("usra")])),
+                 check_instructions.check_model_agrees, (ARM, "W", 1), True),
+    PlantedFault("a specification without the flag of the last block", S, "digest", lambda _: (
         lambda a, kind, s: a.compress(kind, s.chain, s.pending, s.counter + s.pending_length, 0, 0)),
-            check_paths.check_digests, (1,)),
-    Planted("a specification that accepts too long an output", S, "admits", lambda right: (
+                 check_paths.check_specified_digests, (1,)),
+    PlantedFault("a specification that accepts too long an output", S, "length_conditions", lambda right: (
         lambda kind, size, *rest: [((size,), 1, kind.w + 1)] + right(kind, size, *rest)[1:]),
-            lambda: call_cases.Cases(programs.read(V3), "blake2s").show("_init_key")),
-    Planted("a copy of a variable length that chooses the wrong bytes", symbolic, "below", lambda _: (
-        lambda machine, j, n, a, b: symbolic.choice(j, n, b, a)),
-            lambda: call_cases.Cases(programs.read(ARM), "blake2s").show("_final")),
-    Planted("cases of refused calls only for numbers below their bounds", call_cases, "beyond", lambda right: (
-        lambda *condition: right(*condition)[:1]), check_coverage.check, ("blake2s",)),
+                 lambda: call_cases.Cases(programs.read(V3), "blake2s").prove_export("_init_key")),
+    PlantedFault("a copy of a variable length that chooses the wrong bytes", symbolic, "choose_if_below", lambda _: (
+        lambda machine, j, n, a, b: symbolic.byte_chosen_if_below(j, n, b, a)),
+                 lambda: call_cases.Cases(programs.read(ARM), "blake2s").prove_export("_final")),
+    PlantedFault("cases of refused calls only for numbers below their bounds", call_cases, "out_of_bounds_conditions",
+                 lambda right: (lambda *condition: right(*condition)[:1]),
+                 check_coverage.check_cases_are_all_calls, ("blake2s",)),
 )

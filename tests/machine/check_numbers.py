@@ -9,9 +9,9 @@ from typing import Callable
 import terms as T
 import x86
 from call_cases import variable_of
-from facts import RELATIONS, Facts
-from symbolic import Exact, Undecided, below, fresh
-from taint import Taint
+from facts import RELATIONS, PathFacts
+from symbolic import SymbolicState, UndecidedComparison, choose_if_below, fresh_bytes
+from taint import TaintState
 from terms import OPPOSITE, signed
 
 SMALL, LARGE = (1, -1, 2, 8, 64, 128), (1 << 32, 1 << 62, 1 << 63, -(1 << 62), 3)
@@ -23,7 +23,7 @@ STEPS, WAYS = 14, 3
 LOW = ("low", "sum", "flip", "sign")   # what is made of the low bytes of words
 
 
-class Run:
+class RandomRun:
     """A machine, the words that were computed, and the numbers of the variables."""
 
     compare: Callable                  # asks or learns how two words compare
@@ -47,7 +47,7 @@ class Run:
     def value(self, t: T.Term) -> int:
         return T.value(t, self.numbers, {})
 
-    def add(self, t: T.Term, n: int) -> None:
+    def add_word(self, t: T.Term, n: int) -> None:
         """A word that was computed, and its number. One new variable has what makes the word this."""
         for u, k in T.linear(t)[1].items():
             new = variable_of(u)
@@ -58,8 +58,7 @@ class Run:
             raise T.IsWrong("%r is %#x instead of %#x" % (t, self.value(t), n))
         self.words.append(t)
 
-    def compute(self) -> None:
-        """One more word."""
+    def compute_word(self) -> None:
         m, rng = self.machine, self.rng
         a, b = rng.sample(self.words, 2)
         x, y, data = self.value(a), self.value(b), (T.split(a), T.split(b))
@@ -67,14 +66,15 @@ class Run:
         first, factor, added = rng.choice((1, 1, 0)), rng.choice(self.factors), rng.choice(ADDED)
         kind, f, found = rng.choice((
             ("add", lambda a, b: first * a + factor * b + added, first * x + factor * y + added),
-            ("and", lambda a, _: m.masked(a, T.const(64, n)), x & n), ("or", m.either, x | y),
+            ("and", lambda a, _: m.bitwise_and(a, T.const(64, n)), x & n), ("or", m.bitwise_or, x | y),
             ("shift", lambda a, _: m.shifted_right(a, k), x >> k), ("xor", m.xor_values, x ^ y),
             ("shift back", lambda a, _: m.shifted_right(m.shifted_left(a, k), k), (x << k) % (1 << 64) >> k),
-            *((name, None, self.low(name, x, y, n, size)) for name in LOW)))
-        self.add(T.word(m.computed(kind, f, *data) if f else self.low_bytes(kind, *data, n, size)), found)
+            *((name, None, self.expected_low_bytes(name, x, y, n, size)) for name in LOW)))
+        made = m.compute_and_set_flags(kind, f, *data) if f else self.low_bytes(kind, *data, n, size)
+        self.add_word(T.word(made), found)
 
     @staticmethod
-    def low(kind: str, x: int, y: int, n: int, size: int) -> int:
+    def expected_low_bytes(kind: str, x: int, y: int, n: int, size: int) -> int:
         """What low_bytes() must make of two numbers."""
         w = 8 * size
         found = {"low": x, "sum": x + y, "flip": x ^ n, "sign": x}[kind] % (1 << w)
@@ -84,15 +84,15 @@ class Run:
         """The low bytes of a word, their sum with those of another, or with some bits changed, and zeros above; or with
         the sign above. Of the sum and the sign something is often known."""
         m, zeros = self.machine, [0] * (8 - size)
-        data, other = ([m.norm(byte) for byte in part][:size] for part in (a, b))
+        data, other = ([m.normalized_byte(byte) for byte in part][:size] for part in (a, b))
         low, wide = T.word(data), T.word(data + zeros) + T.word(other + zeros)
         for t, k in ((low, 1 << low.w - 1), (wide, self.value(wide) + self.rng.choice((1, 8)))):
             if self.rng.random() < 0.5 and k >> t.w == 0:
                 self.learn("<", t, T.const(t.w, k), self.value(t) < k)
         if kind == "sign":
-            return m.cleaned(m.extended(data, 8), True)
+            return m.bytes_to_store(m.sign_extended(data, 8), True)
         made = {"low": low, "sum": low + T.word(other), "flip": m.xor_values(low, T.const(low.w, n))}[kind]
-        return T.split(made or m.new(low.w)) + zeros
+        return T.split(made or m.new_public_variable(low.w)) + zeros
 
     def learn(self, relation: str, a: T.Term, b: T.Term, holds: bool) -> None:
         if not self.machine.learn(relation, a, b, holds):
@@ -104,8 +104,8 @@ class Run:
             self.steps += 1
             self.machine.where = "at %d " % self.steps
             try:
-                self.compute()
-            except (T.CannotShow, Undecided):
+                self.compute_word()
+            except (T.CannotShow, UndecidedComparison):
                 pass
             a = self.rng.choice(self.words)
             x = self.value(a)
@@ -114,7 +114,7 @@ class Run:
         return self.questions
 
 
-def is_in(n: int, modulus: int, low: int, high: int, step: int) -> bool:
+def is_in_range(n: int, modulus: int, low: int, high: int, step: int) -> bool:
     """Whether n, up to a multiple of a modulus, is one of low, low + step, .. up to high."""
     first = low + (n - low) % modulus
     if not step:
@@ -126,7 +126,7 @@ def is_in(n: int, modulus: int, low: int, high: int, step: int) -> bool:
     return first + times * modulus <= high
 
 
-class OfSecrets(Run):
+class TaintRun(RandomRun):
     """A machine that follows secrets."""
 
     def compare(self, a: T.Term, b: T.Term) -> None:
@@ -139,10 +139,10 @@ class OfSecrets(Run):
         else:
             c, d = (self.rng.choice(self.words) for _ in range(2))
             m.where += "chosen "
-            self.add(T.word(m.chosen((relation, a, b), T.split(c), T.split(d))), self.value(c if holds else d))
-        self.check()
+            self.add_word(T.word(m.chosen((relation, a, b), T.split(c), T.split(d))), self.value(c if holds else d))
+        self.check_ranges()
 
-    def meet(self) -> bool:
+    def join_two_paths(self) -> bool:
         """Two paths meet, of which one was taken. Words of others that met are gone. Returns whether both may be."""
         m, rng = self.machine, self.rng
         self.numbers = {name: n for name, n in self.numbers.items() if not name.startswith("met ")}
@@ -159,19 +159,19 @@ class OfSecrets(Run):
         kept = [T.word(taken.general[k]) for k in range(3)]
         m.join(paths[1], "met ", rng.choice((0, 2, 3)), True)
         for t, old in zip(m.general, kept):
-            self.add(T.word(t), self.value(old))
-        self.check()
+            self.add_word(T.word(t), self.value(old))
+        self.check_ranges()
         return True
 
-    def check(self) -> None:
+    def check_ranges(self) -> None:
         """Looks at the range of each word, and of how it differs from another."""
         for t in self.words + [t - self.rng.choice(self.words) for t in self.words]:
             n, found = self.value(t), self.machine.range_of(t)
-            if not is_in(n, 1 << t.w, *found):
+            if not is_in_range(n, 1 << t.w, *found):
                 raise T.IsWrong("%r is %#x, and not in %s" % (t, n, found))
 
 
-class OfCalls(Run):
+class SymbolicRun(RandomRun):
     """A machine of whole calls."""
 
     def compare(self, a: T.Term, b: T.Term) -> None:
@@ -187,48 +187,48 @@ class OfCalls(Run):
         if not low <= x <= high:
             raise T.IsWrong("%r is %#x, and not in %s" % (a, x, (low, high)))
         for j in (low, x) if low < high else ():
-            if below(m, j, a, 0, 1) == int(j < x):
+            if choose_if_below(m, j, a, 0, 1) == int(j < x):
                 raise T.IsWrong("whether %#x is below %r, which is %#x" % (j, a, x))
         if answer is None:
             self.learn(relation, a, b, holds)
         if rng.random() < 0.3:
-            self.tell(a, b, *(rng.choice((0, 1, 64, abs(x - y))) for _ in range(2)))
-        for t, n in m.path_facts.values().items() if rng.random() < 0.1 else ():
+            self.learn_entry_facts(a, b, *(rng.choice((0, 1, 64, abs(x - y))) for _ in range(2)))
+        for t, n in m.path_facts.known_values().items() if rng.random() < 0.1 else ():
             if n.args != self.value(t):
                 raise T.IsWrong("%r is %#x, not %r" % (t, self.value(t), n))
 
-    def tell(self, a: T.Term, b: T.Term, n: int, k: int) -> None:
+    def learn_entry_facts(self, a: T.Term, b: T.Term, n: int, k: int) -> None:
         """Learns the bounds of a difference, and that two places are apart, as a call begins with."""
         m, x, y = self.machine, self.value(a), self.value(b)
         if a.op == b.op == "var":
-            m.path_facts = m.path_facts.between([(1, a), (-1, b)], x - y - n, x - y + k)
+            m.path_facts = m.path_facts.with_sum_between([(1, a), (-1, b)], x - y - n, x - y + k)
         if (y - x) % (1 << 64) >= n and (x - y) % (1 << 64) >= k:
-            m.path_facts = m.path_facts.apart(a, T.const(64, n), b, T.const(64, k))
+            m.path_facts = m.path_facts.with_ranges_apart(a, T.const(64, n), b, T.const(64, k))
         if not m.path_facts.are_possible():
             raise T.IsWrong("what is so of %#x and %#x is called impossible" % (x, y))
 
 
-def check_secrets(count: int) -> tuple:
+def check_taint_ranges(count: int) -> tuple:
     """Refuses ranges that have not their numbers. Returns a verdict, and what was tried."""
     rng = random.Random(5)
     for _ in range(count):
-        run = OfSecrets(rng, lambda: Taint({}, x86.X86, (16, 0), 128, rng.choice((0, 896))), SMALL)
+        run = TaintRun(rng, lambda: TaintState({}, x86.X86, (16, 0), 128, rng.choice((0, 896))), SMALL)
         run.run()
-        if run.meet():
+        if run.join_two_paths():
             run.run()
-            run.meet()
+            run.join_two_paths()
     return "ok", "%d runs of %d steps" % (count, 2 * STEPS)
 
 
-def check_calls(seed: int, count: int) -> tuple:
+def check_decisions(seed: int, count: int) -> tuple:
     """Refuses a wrong decision of so many. Returns a verdict, and what was tried. A long question is open."""
     rng, decided, runs = random.Random(seed), 0, 0
-    if len(set(Exact({}, x86.X86, (16, 0)).extended(fresh("secret", T.SECRET, 4), 8))) < 8:
+    if len(set(SymbolicState({}, x86.X86, (16, 0)).sign_extended(fresh_bytes("secret", T.SECRET, 4), 8))) < 8:
         return "not ok", "all bytes of a secret with its sign are called the same"
-    Facts().ask()                      # makes the solver
-    Facts.solver.set("timeout", 30)
+    PathFacts().find_model()                      # makes the solver
+    PathFacts.solver.set("timeout", 30)
     while decided < count:
         runs += 1
-        decided += OfCalls(rng, lambda: Exact({}, x86.X86, (16, 0)), SMALL + LARGE * (runs % 8 == 0)).run()
-    Facts.forget()
+        decided += SymbolicRun(rng, lambda: SymbolicState({}, x86.X86, (16, 0)), SMALL + LARGE * (runs % 8 == 0)).run()
+    PathFacts.forget_solver()
     return "ok", "%d comparisons, in %d runs" % (decided, runs)

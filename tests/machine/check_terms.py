@@ -19,31 +19,32 @@ MEANINGS: dict = {
     "xor": lambda w, a, of: functools.reduce(operator.xor, map(of, a[1]), z3.BitVecVal(a[0], w)),
     "ror": lambda w, a, of: z3.RotateRight(of(a[0]), a[1]),
     "shr": lambda w, a, of: z3.LShR(of(a[0]), a[1]),
-    "slice": lambda w, a, of: part(of(a[0]), a[1], w // 8),
-    "cat": lambda w, a, of: join(z3.BitVecVal(b, 8) if isinstance(b, int) else part(of(b[0]), b[1], 1) for b in a),
+    "slice": lambda w, a, of: extract_bytes(of(a[0]), a[1], w // 8),
+    "cat": lambda w, a, of: concatenate_words(
+        z3.BitVecVal(b, 8) if isinstance(b, int) else extract_bytes(of(b[0]), b[1], 1) for b in a),
     "zero": lambda w, a, of: z3.If(of(a[0]) == 0, z3.BitVecVal(1, w), z3.BitVecVal(0, w)),
     "nonzero": lambda w, a, of: z3.If(of(a[0]) == 0, z3.BitVecVal(0, w), z3.BitVecVal(1, w)),
 }
 
 
-@T.remembering
+@T.memoized
 def formula(t: Any) -> Any:
     """What a term means, by the definitions of its operators only. A number is itself."""
     return MEANINGS[t.op](t.w, t.args, formula) if isinstance(t, T.Term) else t
 
 
-def part(f: Any, i: int, n: int) -> Any:
+def extract_bytes(f: Any, i: int, n: int) -> Any:
     """n bytes of a word, from byte i on."""
     return z3.Extract(8 * (i + n) - 1, 8 * i, f)
 
 
-def join(parts: Iterable) -> Any:
+def concatenate_words(parts: Iterable) -> Any:
     """The word of several parts, the lowest first."""
     parts = list(parts)[::-1]
     return parts[0] if len(parts) == 1 else z3.Concat(*parts)
 
 
-def shapes(w: int) -> list:
+def example_terms(w: int) -> list:
     """A term of each form, over the same few variables."""
     x, y = T.var(w, "x", T.SECRET), T.var(w, "y", T.PUBLIC)
     wide = T.var(2 * w, "wide", T.JUNK)
@@ -55,14 +56,14 @@ def shapes(w: int) -> list:
         T.xor(w, x, T.ror(w, y, 3), flag(C, D), T.const(w, C)), T.xor(w, x, y), T.ror(w, x, 5),
         T.ror(w, x, w // 2), T.shr(w, x, 3), T.word(T.split(wide)[n // 2:n // 2 + n]),
         T.word((bs[::-1] + cs)[1:n + 1]), T.word(([0] + bs + cs)[:n]),
-        T.word((bs[:1] + T.split(flag(C, D)))[:n]), T.test("zero", w, x),
-        T.test("nonzero", w, T.add(w, (1, x), (-1, y))),
+        T.word((bs[:1] + T.split(flag(C, D)))[:n]), T.zero_test("zero", w, x),
+        T.zero_test("nonzero", w, T.add(w, (1, x), (-1, y))),
     ]
 
 
-def cases(w: int, has_all: bool) -> Iterator:
+def rule_cases(w: int, has_all: bool) -> Iterator:
     """The rules: a name, what makes a term, the same of its meaning, and the arguments of both."""
-    forms, n, x = shapes(w), w // 8, T.var(w, "x", T.SECRET)
+    forms, n, x = example_terms(w), w // 8, T.var(w, "x", T.SECRET)
     pairs = [(a, b) for k, a in enumerate(forms) for b in (forms if has_all else forms[k:])]
     shifts = [(a, k) for a in forms for k in range(1, w)
               if has_all or a.op in ("const", "var", "xor", "ror") or k in (1, 8 % w or 7, w // 2, w - 1)]
@@ -73,24 +74,24 @@ def cases(w: int, has_all: bool) -> Iterator:
         (pairs, "sub", lambda a, b: T.add(w, (1, a), (-1, b)), operator.sub),
         (pairs, "multiples", lambda a, b: T.add(w, (8, a), (128, b), (1, a)), lambda f, g: 9 * f + 128 * g),
         (pairs, "xor", lambda a, b: T.xor(w, a, b), operator.xor),
-        (pairs, "or", lambda a, b: T.either(w, a, b), operator.or_),
-        (pairs, "and", lambda a, b: T.both(w, a, b), operator.and_),
+        (pairs, "or", lambda a, b: T.bitwise_or(w, a, b), operator.or_),
+        (pairs, "and", lambda a, b: T.bitwise_and(w, a, b), operator.and_),
         (shifts, "ror", lambda a, k: T.ror(w, a, k), z3.RotateRight),
         (shifts, "shl", lambda a, k: T.shl(w, a, k), lambda f, k: f << k),
         (shifts, "shr", lambda a, k: T.shr(w, a, k), z3.LShR),
-        (shifts, "rotation", lambda a, k: T.either(w, T.shl(w, a, k), T.shr(w, a, w - k)), z3.RotateLeft),
-        (parts, "part", lambda a, i, k: T.word(T.split(a)[i:i + k]), part),
+        (shifts, "rotation", lambda a, k: T.bitwise_or(w, T.shl(w, a, k), T.shr(w, a, w - k)), z3.RotateLeft),
+        (parts, "part", lambda a, i, k: T.word(T.split(a)[i:i + k]), extract_bytes),
         (pairs, "move", lambda a, b: T.word([(T.split(a) + T.split(b))[p] for p in order]),
-         lambda f, g: join(part(z3.Concat(g, f), p, 1) for p in order)),
-        ([(a,) for a in forms], "zero", lambda a: T.test("zero", w, a), lambda f: test(f, 1)),
-        ([(a,) for a in forms], "nonzero", lambda a: T.test("nonzero", w, a), lambda f: test(f, 0)),
+         lambda f, g: concatenate_words(extract_bytes(z3.Concat(g, f), p, 1) for p in order)),
+        ([(a,) for a in forms], "zero", lambda a: T.zero_test("zero", w, a), lambda f: test(f, 1)),
+        ([(a,) for a in forms], "nonzero", lambda a: T.zero_test("nonzero", w, a), lambda f: test(f, 0)),
         (pairs, "substitute", lambda a, b: T.substitute(a, {x: b}, {}),
          lambda f, g: z3.substitute(f, (formula(x), g))))
     for arguments, name, made, means in rules:
         yield from ((name, made, means, given) for given in arguments)
 
 
-def wrong(t: T.Term, meant: Any) -> str | None:
+def why_term_is_wrong(t: T.Term, meant: Any) -> str | None:
     """Why a term is not what it should be, as text, or None."""
     if t.taint != T.taint_of(u.taint for u in T.variables(t)):
         return "%r has the taint %d" % (t, t.taint)
@@ -104,28 +105,28 @@ def wrong(t: T.Term, meant: Any) -> str | None:
         t, meant, solver.model() if found == z3.sat else "unknown")
 
 
-def has_value(t: T.Term) -> bool:
+def value_is_as_meant(t: T.Term) -> bool:
     """Whether a term has the number that it means, for some random numbers."""
-    numbers = T.Numbers(1)
+    numbers = T.RandomNumbers(1)
     given = [(z3.Bool(u.args[0]), z3.BoolVal(numbers[u.args[0]] & 1 == 1)) if u.op == "ite" else
              (formula(u), z3.BitVecVal(numbers[u.args], u.w)) for u in T.variables(t)]
     return z3.simplify(z3.substitute(formula(t), *given)).as_long() == T.value(t, numbers, {})
 
 
-def check(width: int, has_all: bool) -> tuple:
+def check_rules(width: int, has_all: bool) -> tuple:
     """Whether all rules hold at a width: a verdict, and how many cases there are."""
     T.reset()
     count: dict = {}
-    if not all(map(has_value, shapes(width))):
+    if not all(map(value_is_as_meant, example_terms(width))):
         return "not ok", "the number of a term is not what it means"
-    for rule, made, means, arguments in cases(width, has_all):
+    for rule, made, means, arguments in rule_cases(width, has_all):
         count.setdefault(rule, 0)
         try:
             t = made(*arguments)
         except T.CannotShow:
             continue
         count[rule] += 1
-        why = wrong(t, means(*map(formula, arguments)))
+        why = why_term_is_wrong(t, means(*map(formula, arguments)))
         if why:
             return "not ok", "%s: %s" % (rule, " ".join(why.split()))
     return "ok" if all(count.values()) else "not ok", "cases: " + ", ".join("%s %d" % pair for pair in count.items())

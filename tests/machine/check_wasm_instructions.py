@@ -9,9 +9,9 @@ from typing import Any
 import functions
 import terms as T
 import wasm
-from machine import Cells
+from machine import MemoryRegion
 from program import read, wasm_format
-from symbolic import Exact
+from symbolic import SymbolicState
 
 SKIPPED = ("block", "loop", "end", "br", "br_if", "return", "unreachable", "local.get",
            "local.set", "local.tee", "global.get", "i64.lt_s")
@@ -35,8 +35,7 @@ CODES = {known.partition(" ")[0]: (prefix, code, known.partition(" ")[2]) for pr
     (b"", wasm_format.PLAIN), (b"\xfd", wasm_format.VECTOR)) for code, known in table.items()}
 
 
-def signature(text: str) -> tuple:
-    """The types of the operands, and of the result or None."""
+def operand_and_result_types(text: str) -> tuple:
     name = text.split()[0]
     kind, _, what = name.partition(".")
     if name in wasm.PURE:
@@ -48,68 +47,65 @@ def signature(text: str) -> tuple:
     return (["i32", kind], None) if what == "store" else (["i32"], kind)
 
 
-def leb(n: int, signed: bool = False) -> bytes:
-    """A number in LEB128."""
+def leb128(n: int, signed: bool = False) -> bytes:
     is_last = -64 <= n < 64 if signed else n < 128
-    return bytes([n & 127]) if is_last else bytes([n & 127 | 128]) + leb(n >> 7, signed)
+    return bytes([n & 127]) if is_last else bytes([n & 127 | 128]) + leb128(n >> 7, signed)
 
 
-def sized(data: bytes) -> bytes:
-    """Bytes after their number."""
-    return leb(len(data)) + data
+def length_prefixed(data: bytes) -> bytes:
+    return leb128(len(data)) + data
 
 
-def encoded(text: str) -> bytes:
+def encode_instruction(text: str) -> bytes:
     """The bytes of an instruction. The place in memory begins with its alignment."""
     name, *numbers = text.split()
     prefix, code, kinds = CODES[name]
-    data = b"".join(leb(int(n), kinds == "s") if kinds in ("u", "s", "m") else bytes([int(n)]) for n in numbers)
-    return prefix + (leb(code) if prefix else bytes([code])) + b"\0" * (kinds == "m") + data
+    data = b"".join(leb128(int(n), kinds == "s") if kinds in ("u", "s", "m") else bytes([int(n)]) for n in numbers)
+    return prefix + (leb128(code) if prefix else bytes([code])) + b"\0" * (kinds == "m") + data
 
 
-def module(text: str) -> bytes:
+def test_module(text: str) -> bytes:
     """A module with a function that loads operands, runs the instruction, and stores its result."""
-    operands, result = signature(text)
+    operands, result = operand_and_result_types(text)
     lines = ["i32.const 0"] * (result is not None)
     for k, kind in enumerate(operands):
         lines += ["i32.const 0", "%s.load %d" % (kind, 16 * k)]
     lines += [text] + ["%s.store %d" % (result, RESULT)] * (result is not None) + ["end"]
-    body = sized(b"\0" + b"".join(map(encoded, lines)))
+    body = length_prefixed(b"\0" + b"".join(map(encode_instruction, lines)))
     sections = {1: b"\1\x60\0\0", 3: b"\1\0", 5: b"\1\0\1", 7: b"\2\6memory\2\0\1f\0\0", 10: b"\1" + body}
-    return b"\0asm\1\0\0\0" + b"".join(bytes([k]) + sized(data) for k, data in sections.items())
+    return b"\0asm\1\0\0\0" + b"".join(bytes([k]) + length_prefixed(data) for k, data in sections.items())
 
 
-def model(text: str, data: bytes) -> bytes:
-    """The memory after the instruction in the model."""
-    operands, result = signature(text)
+def memory_after_in_model(text: str, data: bytes) -> bytes:
+    operands, result = operand_and_result_types(text)
     base = T.var(32, "memory", T.PUBLIC)
-    m = Exact({base: Cells(0, SIZE, lambda k: data[k])}, wasm.Wasm, (16, 0))
+    m = SymbolicState({base: MemoryRegion(0, SIZE, lambda k: data[k])}, wasm.Wasm, (16, 0))
     m.stack, m.globals = T.var(32, "sp", T.PUBLIC), [[0] * 4]
     cpu, at = wasm.Wasm(m), lambda n: base + n
     for k, kind in enumerate(operands):
         cpu.push(list(data[16 * k:16 * k + wasm.SIZES[kind]]))
     if ".load" in text or ".store" in text:
         m.operands[0] = T.split(at(int.from_bytes(data[:4], "little")))
-    cpu.follow(wasm.Instruction(0, text))
+    cpu.execute_instruction(wasm.Instruction(0, text))
     if result is not None:
         m.store(at(RESULT), cpu.pop())
-    return bytes(m.left(base, len(data)))
+    return bytes(m.first_bytes(base, len(data)))
 
 
-def chosen(path: str, rng: Any, count: int) -> tuple:
+def choose_instructions(path: str, rng: Any, count: int) -> tuple:
     """How many names of instructions the functions of the list have, and up to `count` instructions of each."""
     program = read(path)
     found: dict = {}
     for name, _, _ in functions.FILES[path]:
-        for text in program.functions[functions.in_file(path, name)]:
+        for text in program.functions[functions.name_in_file(path, name)]:
             if text.split()[0] not in SKIPPED:
                 found.setdefault(text.split()[0], set()).add(text)
     return len(found), [t for n in sorted(found) for t in rng.sample(sorted(found[n]), min(count, len(found[n])))]
 
 
-def state(text: str, has_zeros: int, rng: Any) -> bytes:
+def random_memory(text: str, has_zeros: int, rng: Any) -> bytes:
     """Random memory, in which some operands are zero, the number of a shift is small, and an address is right."""
-    operands, (name, *numbers) = signature(text)[0], text.split()
+    operands, (name, *numbers) = operand_and_result_types(text)[0], text.split()
     data = bytearray(rng.randbytes(SIZE))
     if has_zeros and operands[:1] != ["v128"]:
         data[:32] = bytes(32)
@@ -120,14 +116,14 @@ def state(text: str, has_zeros: int, rng: Any) -> bytes:
     return bytes(data)
 
 
-def check(path: str, rounds: int) -> tuple:
+def check_model_agrees(path: str, rounds: int) -> tuple:
     """Whether the model agrees with node: a verdict, and the numbers or what differs."""
     rng = random.Random(5)
-    count, tests = chosen(path, rng, 8)
-    inputs = [(k, state(text, n % 2, rng)) for k, text in enumerate(tests) for n in range(rounds)]
-    message = {"modules": [module(t).hex() for t in tests], "inputs": [(k, data.hex()) for k, data in inputs]}
+    count, tests = choose_instructions(path, rng, 8)
+    inputs = [(k, random_memory(text, n % 2, rng)) for k, text in enumerate(tests) for n in range(rounds)]
+    message = {"modules": [test_module(t).hex() for t in tests], "inputs": [(k, data.hex()) for k, data in inputs]}
     run = subprocess.run(["node", "-e", NODE], input=json.dumps(message), text=True, stdout=subprocess.PIPE, check=True)
     for (k, before), after in zip(inputs, json.loads(run.stdout), strict=True):
-        if model(tests[k], before).hex() != after:
+        if memory_after_in_model(tests[k], before).hex() != after:
             return "not ok", "%s: in the model the memory or the result differs" % tests[k]
     return "ok", "%d forms, %d instructions, %d runs" % (count, len(tests), len(inputs))

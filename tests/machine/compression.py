@@ -2,16 +2,17 @@
 
 import re
 import time
+from functools import partial
 from typing import Any
 
 import rfc7693 as R
 import terms as T
-from facts import Facts
-from loops import Straight
-from machine import Cells, joined, junk
+from facts import PathFacts
+from loops import SinglePathLoop
+from machine import MemoryRegion, joined, undefined_bytes
 from path_values import need_same
 from program import Program
-from symbolic import Exact, Undecided, fresh
+from symbolic import SymbolicState, UndecidedComparison, fresh_bytes
 from terms import CannotShow, IsWrong
 
 STACK = 16384
@@ -19,11 +20,11 @@ STACK = 16384
 FRAMES: dict = {}
 
 
-class Call:
+class CompressionCall:
     """A call of a function that compresses blocks of each of some messages: its variables, memory, and result."""
 
-    def __init__(self, program: Program, name: str, kind: R.Kind, lanes: int, assumed: dict,
-                 numbers: dict | None = None, known: Facts | None = None) -> None:
+    def __init__(self, program: Program, name: str, kind: R.HashFamily, lanes: int, assumed: dict,
+                 numbers: dict | None = None, known: PathFacts | None = None) -> None:
         """With numbers for the variables of these names, and some facts."""
         self.program, self.kind, self.assumed, self.lanes = program, kind, assumed, lanes
         self.numbers, w, n = numbers or {}, kind.w, kind.bytes
@@ -34,18 +35,18 @@ class Call:
         self.words, self.chain, self.message = secret("h", 8), secret("H", 8), secret("m", 16)
         self.blocks = [public("block%d" % j) for j in range(lanes)]
         self.lengths = [public("length%d" % j) for j in range(lanes)]
-        rows = Cells(0, 8 * n * lanes, self.rows(self.words).__getitem__)
-        self.regions = {self.pointer(self.h): rows, **({} if program.kind == "wasm" else program.memory())}
+        rows = MemoryRegion(0, 8 * n * lanes, self.rows_of_chaining_words(self.words).__getitem__)
+        self.regions = {self.pointer(self.h): rows, **({} if program.kind == "wasm" else program.constants_memory())}
         self.cpu: Any = program.model.Model    # what executes instructions over values
-        self.machine = Exact(self.regions, self.cpu, (16, self.cpu.BACK), known)
+        self.machine = SymbolicState(self.regions, self.cpu, (16, self.cpu.BACK), known)
         arguments = [self.h] + self.arguments()
-        self.at_block(T.const(64, 0))
+        self.set_memory_to_block(T.const(64, 0))
         signature = [program.signatures[name]] if program.kind == "wasm" else []
-        self.cpu(self.machine).start(arguments, STACK, lambda: fresh("stack", T.JUNK)[0], *signature)
-        self.entry = self.cpu(self.machine).at_entry()
+        self.cpu(self.machine).set_entry_state(arguments, STACK, lambda: fresh_bytes("stack", T.JUNK)[0], *signature)
+        self.entry = self.cpu(self.machine).bytes_kept_for_caller()
 
     @staticmethod
-    def rows(words: list) -> list:
+    def rows_of_chaining_words(words: list) -> list:
         """The bytes of the chaining words of all messages in memory: the first word of each, the second, and so on."""
         return joined(T.split(message[k]) for k in range(8) for message in words)
 
@@ -61,19 +62,20 @@ class Call:
         bytes are undefined; of several the tables of blocks (addresses and numbers), of counters and of flags."""
         if self.lanes > 1:
             pairs = [t for pair in zip(self.blocks, self.lengths) for t in pair]
-            return [self.table("blocks", pairs), *self.counters_and_flags()]
+            return [self.pointer_to_words("blocks", pairs), *self.counters_and_flags()]
         return [self.blocks[0], self.counter] + [
-            T.word([self.flag(name, 0)] + junk(name, 7)) for name in ("last", "node")]
+            T.word([self.flag(name, 0)] + undefined_bytes(name, 7)) for name in ("last", "node")]
 
     def flag(self, name: str, j: int) -> T.Byte:
         """The byte of a flag of message j, which is 0 or 1."""
         name += str(j)
         return int(self.assumed[name]) if name in self.assumed else (T.ite(8, name, 1, 0), 0)
 
-    def table(self, name: str, words: list) -> T.Term:
+    def pointer_to_words(self, name: str, words: list) -> T.Term:
         """A pointer to these words of 64 bits."""
         table = T.var(64, name, T.PUBLIC)
-        self.regions[self.pointer(table)] = Cells(0, 8 * len(words), joined(map(T.split, words)).__getitem__, False)
+        data = joined(map(T.split, words))
+        self.regions[self.pointer(table)] = MemoryRegion(0, len(data), data.__getitem__, False)
         return table
 
     def counters_and_flags(self) -> list:
@@ -81,64 +83,63 @@ class Call:
         self.counters = [self.variable(64, "counter%d" % j, T.PUBLIC) for j in range(self.lanes)]
         flags = T.var(64, "flags", T.PUBLIC)
         bits = [self.flag(name, j) for j in range(self.lanes) for name in ("last", "node")]
-        self.regions[self.pointer(flags)] = Cells(0, 2 * self.lanes, bits.__getitem__, False)
-        return [self.table("counters", self.counters), flags]
+        self.regions[self.pointer(flags)] = MemoryRegion(0, 2 * self.lanes, bits.__getitem__, False)
+        return [self.pointer_to_words("counters", self.counters), flags]
 
-    def buffers(self) -> list:
+    def block_buffers(self) -> list:
         """Pointers to the first blocks, and the words that are there."""
         return list(zip(self.blocks, self.message))
 
-    def at_block(self, i: T.Term | None) -> None:
+    def set_memory_to_block(self, i: T.Term | None) -> None:
         """Lets the memory of the blocks be that of block i, or takes it away."""
         self.regions = self.machine.regions = dict(self.regions)
-        for p, words in self.buffers():
+        for p, words in self.block_buffers():
             size = self.kind.bytes * len(words)
             self.regions.pop(self.pointer(p), None)
             if i is not None:
                 base = self.pointer(p + size * i)
-                self.regions[base] = Cells(0, size, joined(map(T.split, words)).__getitem__, False)
+                self.regions[base] = MemoryRegion(0, size, joined(map(T.split, words)).__getitem__, False)
 
     def count(self) -> T.Term:
         """The number of blocks of each message."""
         return self.lengths[0]
 
-    def ends(self, left: T.Term) -> list:
+    def terms_zero_at_end(self, left: T.Term) -> list:
         """The terms one of which has to be 0 exactly if no block is left."""
         return [left, -left]
 
-    def counted(self, j: int, i: T.Term) -> T.Term:
-        """The counter of message j at block i."""
+    def counter_at_block(self, j: int, i: T.Term) -> T.Term:
         return (self.counters[j] if self.lanes > 1 else self.counter) + self.kind.block * i
 
-    def masks(self, j: int) -> list:
+    def flag_masks(self, j: int) -> list:
         """The words that the flags of message j are xored in as: of ones, if they are on."""
-        return [T.leaves(lambda n: -n, self.kind.w, T.word([self.flag(name, j)])) for name in ("last", "node")]
+        return [T.fold_constants(lambda n: -n, self.kind.w, T.word([self.flag(name, j)])) for name in ("last", "node")]
 
-    def expected(self, h: list, i: T.Term) -> list:
+    def expected_chaining_words(self, h: list, i: T.Term) -> list:
         """The bytes of F of each message, at block i."""
         found, n = [], self.kind.bytes
         for j in range(self.lanes):
-            counter = T.split(self.counted(j, i))
+            counter = T.split(self.counter_at_block(j, i))
             low, high = T.word(counter[:n]), T.word(counter[n:] or [0] * 8)
-            found.append(R.F(self.kind, h[j], self.message[j], low, high, *self.masks(j)))
-        return self.rows(found)
+            found.append(R.F(self.kind, h[j], self.message[j], low, high, *self.flag_masks(j)))
+        return self.rows_of_chaining_words(found)
 
     def check_return(self, machine: Any, wanted: list) -> None:
         """The chaining words, the stack and the registers after a return."""
         need_same(machine, {}, "the chaining words", machine.load(self.pointer(self.h), len(wanted)), wanted)
         self.cpu(machine).check_return(self.entry)
-        self.cpu(machine).need_vectors()
+        self.cpu(machine).check_vectors_at_return()
 
 
-class EachCall(Call):
+class OneBlockEachCall(CompressionCall):
     """A call of a function that compresses one block of each of several messages."""
 
     def arguments(self) -> list:
         """The tables of the blocks' addresses, of the counters and of the flags."""
-        return [self.table("blocks", self.blocks), *self.counters_and_flags()]
+        return [self.pointer_to_words("blocks", self.blocks), *self.counters_and_flags()]
 
 
-class StripesCall(Call):
+class StripesCall(CompressionCall):
     """A call of a function that compresses the blocks of stripes, which hold one block of each message, next to each
     other, with the flags off. The counter is that before the first."""
 
@@ -146,34 +147,33 @@ class StripesCall(Call):
         """The address of the stripes, the counter and the number of stripes: the number of bytes is not used."""
         return [self.blocks[0], self.counter, self.count()]
 
-    def buffers(self) -> list:
+    def block_buffers(self) -> list:
         return [(self.blocks[0], [t for message in self.message for t in message])]
 
     def count(self) -> T.Term:
         return T.var(64, "count", T.PUBLIC)
 
-    def ends(self, left: T.Term) -> list:
+    def terms_zero_at_end(self, left: T.Term) -> list:
         """The bytes of the blocks that are left may be counted too: they are fewer than 2^64."""
         size = self.kind.block
-        return super().ends(left) + [n * left for n in (size, -size)]
+        return super().terms_zero_at_end(left) + [n * left for n in (size, -size)]
 
-    def counted(self, j: int, i: T.Term) -> T.Term:
+    def counter_at_block(self, j: int, i: T.Term) -> T.Term:
         return self.counter + self.kind.block * i + self.kind.block
 
-    def masks(self, j: int) -> list:
+    def flag_masks(self, j: int) -> list:
         return [T.const(self.kind.w, 0)] * 2
 
 
-# The calls of functions with these names, besides Call.
-CALLS: dict[str, type[Call]] = {"compress_each": EachCall, "compress_in_lanes": StripesCall}
+# The calls of functions with these names, besides CompressionCall.
+CALLS: dict[str, type[CompressionCall]] = {"compress_each": OneBlockEachCall, "compress_in_lanes": StripesCall}
 
 
-def call_of(name: str) -> type[Call]:
-    """How a function of this name is called."""
-    return CALLS.get(re.split(r"\.\.|::", name)[-1], Call)
+def call_class_of(name: str) -> type[CompressionCall]:
+    return CALLS.get(re.split(r"\.\.|::", name)[-1], CompressionCall)
 
 
-class Runner:
+class FunctionRunner:
     """Executes a function, and remembers which of its instructions were reached."""
 
     def __init__(self, code: list, cpu: Any) -> None:
@@ -190,7 +190,7 @@ class Runner:
             if pc not in self.code:
                 raise CannotShow("a jump leaves the function")
             self.at = self.code[pc]
-            (_, pc), = self.cpu(machine).follow(self.at)
+            (_, pc), = self.cpu(machine).execute_instruction(self.at)
             self.deepest = min(self.deepest, machine.deepest)
             self.visited.add(self.at.address)
             self.count += 1
@@ -200,83 +200,86 @@ class Runner:
                 raise CannotShow("there is no end after 200,000 instructions")
 
 
-def show_one(program: Program, name: str, kind: R.Kind, lanes: int, runner: Runner) -> None:
+def prove_single_blocks(program: Program, name: str, kind: R.HashFamily, lanes: int, runner: FunctionRunner) -> None:
     """A function that compresses one block of each message. Each flag on which it branches is tried both ways."""
     waiting: list = [{}]
     while waiting:
         assumed = waiting.pop()
-        call = call_of(name)(program, name, kind, lanes, assumed)
+        call = call_class_of(name)(program, name, kind, lanes, assumed)
         try:
             runner.run(call.machine, runner.first)
-        except Undecided as e:
+        except UndecidedComparison as e:
             names = {u.args[0] for t in e.compared[1:] for u in T.variables(t) if u.op == "ite"}
             if len(names) != 1 or len(assumed) > 3:
                 raise
             waiting += [{**assumed, name: on} for name in names for on in (True, False)]
             continue
-        call.check_return(call.machine, call.expected(call.words, T.const(64, 0)))
+        call.check_return(call.machine, call.expected_chaining_words(call.words, T.const(64, 0)))
         runner.paths += 1
 
 
-class Loop(Straight):
+class BlocksLoopProof(SinglePathLoop):
     """A function that compresses a number of blocks of each of several messages: a proof by induction over the
     iterations of its only loop. The first iteration also proposes where the chaining words are."""
 
     STILL = ()
 
-    def __init__(self, program: Program, name: str, kind: R.Kind, lanes: int, runner: Runner) -> None:
+    def __init__(self, program: Program, name: str, kind: R.HashFamily, lanes: int, runner: FunctionRunner) -> None:
         jumps = [i for i in runner.code.values() if i.target is not None and i.target <= i.address]
         if len(jumps) != 1:
             raise CannotShow("the function has %d loops instead of one: if the compiler has split "
                              "it, tests/machine/compression.py needs a proof for that" % len(jumps))
         last, = jumps
-        make = lambda *facts: call_of(name)(program, name, kind, lanes, {}, None, Facts().plus(*facts))
-        self.count, none = call_of(name)(program, name, kind, lanes, {}).count(), T.const(64, 0)
+        new_call = partial(call_class_of(name), program, name, kind, lanes, {})
+        make = lambda *fact: new_call(None, PathFacts().with_comparison(*fact))
+        self.count, none = new_call().count(), T.const(64, 0)
         self.none, self.call = make("==", self.count, none), make("!=", self.count, none)
-        self.none.at_block(None)
+        self.none.set_memory_to_block(None)
         runner.run(self.none.machine, runner.first)
-        self.none.check_return(self.none.machine, self.none.rows(self.none.words))
+        self.none.check_return(self.none.machine, self.none.rows_of_chaining_words(self.none.words))
         if runner.run(self.call.machine, runner.first, last.target) is None:
             raise IsWrong("a call with some blocks returns before the loop")
         runner.visited.add(last.address)
         to_last = lambda m: [m] if runner.run(m, last.target, last.address) else []
         super().__init__(runner, self.call.machine, to_last, last)
 
-    def show(self) -> None:
+    def prove(self) -> None:
         """The proof of a call with some blocks."""
         call, i = self.call, T.var(64, "i", T.PUBLIC)
-        second = self.iterate(self.start.copy())[0].cells()
+        second = self.iterate(self.start.copy())[0].bytes_by_place()
         if any(kind == "memory" and at is not call.machine.stack for kind, at, _ in self.changed(second)):
             raise IsWrong("the loop writes outside of the stack")
-        self.propose_chain(second, call.rows(call.words), call.expected(call.words, T.const(64, 0)))
-        call.at_block(i)
-        wanted, general = call.expected(call.chain, i), self.at_head(i, call.rows(call.chain))
+        self.propose_chaining_words(second, call.rows_of_chaining_words(call.words),
+                                    call.expected_chaining_words(call.words, T.const(64, 0)))
+        call.set_memory_to_block(i)
+        wanted = call.expected_chaining_words(call.chain, i)
+        general = self.state_at_head(i, call.rows_of_chaining_words(call.chain))
         general.regions = call.regions
         after, left = self.iterate(general)
-        self.need(after, self.at_head(i + 1, wanted).cells())
+        self.need_bytes_after_iteration(after, self.state_at_head(i + 1, wanted).bytes_by_place())
         rest = self.count - i - 1
-        if left not in call.ends(rest):
+        if left not in call.terms_zero_at_end(rest):
             raise IsWrong("the loop ends if %r is 0, instead of %r" % (left, rest))
         self.calls.run(after, self.last.next)
         call.check_return(after, wanted)
         self.calls.paths += 4
 
 
-def show(program: Program, name: str, kind: R.Kind, lanes: int) -> tuple:
-    """Proves the claim for a function, or raises Refused. Returns the runner, and the seconds."""
+def prove_compression(program: Program, name: str, kind: R.HashFamily, lanes: int) -> tuple:
+    """Proves the claim for a function, or raises ClaimNotShown. Returns the runner, and the seconds."""
     T.reset()
     started = time.time()
-    runner = Runner(program.code(name, "W"), program.model.Model)
+    runner = FunctionRunner(program.instructions_of(name, "W"), program.model.Model)
     try:
-        if lanes == 1 or call_of(name) is EachCall:
-            show_one(program, name, kind, lanes, runner)
+        if lanes == 1 or call_class_of(name) is OneBlockEachCall:
+            prove_single_blocks(program, name, kind, lanes, runner)
         else:
-            Loop(program, name, kind, lanes, runner).show()
+            BlocksLoopProof(program, name, kind, lanes, runner).prove()
         unseen = [i for i in runner.code.values() if i.address not in runner.visited and i.name not in runner.cpu.FREE]
         if unseen:
             raise CannotShow("%d instructions were not reached, the first is %s" % (len(unseen), unseen[0].text))
-    except (T.Refused, Undecided) as e:
+    except (T.ClaimNotShown, UndecidedComparison) as e:
         at = " ".join(runner.at.text.split()) if runner.at else "the entry"
         raise (IsWrong if isinstance(e, IsWrong) else CannotShow)("at %s: %s" % (at, e))
-    FRAMES[program.content(name)] = -runner.deepest
+    FRAMES[program.content_hash(name)] = -runner.deepest
     return runner, time.time() - started

@@ -12,10 +12,10 @@ import functions
 import program as programs
 import terms as T
 from machine import AFTER, Flags, need_public
-from rfc7693 import Kind
-from taint import SECRET_BYTE, TOP, UNKNOWN_BYTE, Cells, Taint, is_secret
+from rfc7693 import HashFamily
+from taint import SECRET_BYTE, TOP, UNKNOWN_BYTE, MemoryRegion, TaintState, is_secret
 from terms import CannotShow, IsWrong
-from walk import Walker
+from walk import CodeWalker
 
 STACK = 65536
 ROUNDS = 20                            # of a loop, which are unrolled
@@ -66,8 +66,7 @@ def layout(struct: str) -> list:
     return fields
 
 
-def kinds_of(family: str, given: str) -> tuple:
-    """The kinds of the arguments of a function."""
+def argument_kinds(family: str, given: str) -> tuple:
     kinds, left = [], iter(re.findall(r"(const )?(\w+) (\*?)(\w+)", given))
     for const, type_, star, name in left:
         if not star:
@@ -81,7 +80,7 @@ def kinds_of(family: str, given: str) -> tuple:
     return tuple(kinds)
 
 
-def argument(m: Taint, kind: str, at: int, family: str, has_key: bool) -> list:
+def make_argument(m: TaintState, kind: str, at: int, family: str, has_key: bool) -> list:
     """An argument, and its length if it has one. The machine gets its memory."""
     word, length = (T.var(64, "%s%d" % (name, k), T.PUBLIC) for name, k in ((kind, at), ("length", at + 1)))
     if kind == NUMBER:
@@ -94,20 +93,20 @@ def argument(m: Taint, kind: str, at: int, family: str, has_key: bool) -> list:
             public = T.split(T.var(8 * size, "%s.%d" % (word.args, len(cells)), T.PUBLIC)) if is_public else []
             key_size = UNKNOWN_BYTE if name == FIRST and family in VERIFYING else SECRET_BYTE
             cells += public or [SECRET_BYTE, key_size, *[SECRET_BYTE] * (size - 2)]
-        m.regions[word] = Cells(0, len(cells), lambda k: cells[k])
+        m.regions[word] = MemoryRegion(0, len(cells), lambda k: cells[k])
         m.regions[word].arrays = arrays
         return [word]
     b = UNKNOWN_BYTE if kind == PUBLIC else SECRET_BYTE
-    m.regions[word] = Cells(0, 0, lambda k: b, kind == OUT, uniform=True)
+    m.regions[word] = MemoryRegion(0, 0, lambda k: b, kind == OUT, uniform=True)
     if kind == TABLE:
         text = T.var(64, "message", T.PUBLIC)
-        m.regions[text] = Cells(0, 0, lambda k: SECRET_BYTE, False, uniform=True)
+        m.regions[text] = MemoryRegion(0, 0, lambda k: SECRET_BYTE, False, uniform=True)
 
-        def entry(n: Taint, place: tuple, size: int) -> list:
+        def entry(n: TaintState, place: tuple, size: int) -> list:
             """Bytes of the table, which has pairs of an address and a length, from a place on."""
             if place[2] % 16:
                 raise CannotShow("the place in the table of messages is not known")
-            pair = T.split(text + n.new(64, "at")) + T.split(n.new(64, "length"))
+            pair = T.split(text + n.new_public_variable(64, "at")) + T.split(n.new_public_variable(64, "length"))
             return [pair[(place[0] + k) % 16] for k in range(size)]
         m.regions[word].table = entry
     if kind == KEY:
@@ -115,21 +114,21 @@ def argument(m: Taint, kind: str, at: int, family: str, has_key: bool) -> list:
     return [word, length if has_key or kind != KEY else T.const(64, 0)]
 
 
-def called(program: programs.Program, kinds: tuple, family: str, alignment: tuple, has_key: bool) -> Taint:
-    """The machine at the entry of an exported function."""
+def state_at_entry(program: programs.Program, kinds: tuple, family: str, alignment: tuple, has_key: bool) -> TaintState:
     words: list = []
-    m = Taint(program.memory(), program.model.Model, alignment, BLOCKS.get(family, 128), LONGEST.get(family, 0))
+    m = TaintState(program.constants_memory(), program.model.Model, alignment, BLOCKS.get(family, 128),
+                   LONGEST.get(family, 0))
     for kind in kinds:
-        words += argument(m, kind, len(words), family, has_key)
-    m.processor(m).start(words, STACK, lambda: SECRET_BYTE)
+        words += make_argument(m, kind, len(words), family, has_key)
+    m.processor(m).set_entry_state(words, STACK, lambda: SECRET_BYTE)
     return m
 
 
-class Walk:
+class FunctionWalk:
     """The code of a function that is followed: the state at each place, and where all paths meet."""
 
-    def __init__(self, path: str, code: list, cpu: Any, machine: Taint) -> None:
-        self.path, self.entry = path, cpu(machine).at_entry()
+    def __init__(self, path: str, code: list, cpu: Any, machine: TaintState) -> None:
+        self.path, self.entry = path, cpu(machine).bytes_kept_for_caller()
         self.code = {i.address: i for i in code}
         # Where its blocks start.
         self.starts = {pc for i in code if i.target is not None and not i.is_call for pc in (i.target, i.next)}
@@ -139,12 +138,12 @@ class Walk:
         self.visits: Counter = Counter()
         self.waiting: set = set()
         self.end: Any = None
-        self.arrive(code[0].address, machine, -1)
+        self.add_path_at(code[0].address, machine, -1)
 
-    def arrive(self, pc: int, m: Any, origin: int) -> None:
+    def add_path_at(self, pc: int, m: Any, origin: int) -> None:
         """A path that comes to a place from another one."""
         if pc <= origin:
-            m.rounds = rounds_at(m, pc, origin)
+            m.rounds = rounds_after_jump(m, pc, origin)
         if pc in self.loops:
             m.undecided = frozenset(p for p in m.undecided if not pc <= p <= self.loops[pc])
         key = pc, m.rounds
@@ -153,21 +152,19 @@ class Walk:
             raise CannotShow("no invariant of a loop is found")
         if key not in self.states:
             self.states[key] = m.copy()
-        elif not self.states[key].join(m, "%s.%x%s." % (self.path, pc, in_round(m)), self.visits[key],
+        elif not self.states[key].join(m, "%s.%x%s." % (self.path, pc, rounds_text(m)), self.visits[key],
                                        pc in self.loops and m.longest > m.block):
             return
         self.waiting.add(key)
 
-    def finish(self, m: Any) -> None:
+    def add_path_at_end(self, m: Any) -> None:
         if self.end is None:
             self.end = m
         else:
             self.end.join(m, self.path + ".end.", 0)
 
 
-class Analysis(Walker):
-    """Follows secrets through calls."""
-
+class TaintAnalysis(CodeWalker):
     comparing, may_trap = ANSWERS, True
 
     def __init__(self, program: programs.Program, exported: str) -> None:
@@ -178,7 +175,7 @@ class Analysis(Walker):
     def run(self, name: str, machine: Any) -> Any:
         """The state after a call of a function, where all paths meet."""
         machine.rounds, machine.undecided, machine.bounds = (), frozenset(), frozenset()
-        walk = Walk(machine.where, self.program.code(name, "T"), self.cpu, machine)
+        walk = FunctionWalk(machine.where, self.program.instructions_of(name, "T"), self.cpu, machine)
         while walk.waiting:
             key = min(walk.waiting)
             walk.waiting.remove(key)
@@ -187,34 +184,34 @@ class Analysis(Walker):
                 m, pc = waiting.pop()
                 if pc not in walk.code:
                     raise IsWrong("%s goes on behind its end" % name)
-                m.where = "%s/%x%s." % (walk.path, pc, in_round(m))
+                m.where = "%s/%x%s." % (walk.path, pc, rounds_text(m))
                 self.reached.add(pc)
-                for n, after in self.follow(name, m, walk.code[pc], walk.code, walk.entry):
+                for n, after in self.follow_instruction(name, m, walk.code[pc], walk.code, walk.entry):
                     if after is None:
-                        walk.finish(n)
+                        walk.add_path_at_end(n)
                     elif after in walk.starts:
-                        walk.arrive(after, n, pc)
+                        walk.add_path_at(after, n, pc)
                     else:
                         waiting.append((n, after))
         if walk.end is None:
             raise CannotShow("%s does not return" % name)
         return walk.end
 
-    def answered(self, m: Any, i: Any) -> list:
+    def follow_answer_branch(self, m: Any, i: Any) -> list:
         """The answer is public."""
-        m.flags = Flags("other", *[m.new(64, "answer")] * 3)
-        return self.cpu(m).follow(i)
+        m.flags = Flags("other", *[m.new_public_variable(64, "answer")] * 3)
+        return self.cpu(m).execute_instruction(i)
 
-    def compress(self, m: Any, name: str) -> list:
+    def call_compression(self, m: Any, name: str) -> list:
         """A call of a function whose code is not followed: it compresses, or is a scrub_stack."""
         if name in self.listed:
-            compress(m, [self.cpu(m).argument(k) for k in range(5)], *self.listed[name])
-        self.cpu(m).clobber(AFTER)
+            apply_compression(m, [self.cpu(m).argument(k) for k in range(5)], *self.listed[name])
+        self.cpu(m).clobber_registers(AFTER)
         return [m]
 
-    def run_inner(self, m: Any, name: str) -> list:
+    def call_inner_function(self, m: Any, name: str) -> list:
         if name in self.scrubs:
-            return self.compress(m, name)
+            return self.call_compression(m, name)
         i, kept = self.at, {part: getattr(m, part) for part in ("rounds", "undecided", "bounds")}
         m.__dict__.update({**self.run(name, m).__dict__, **kept})
         self.at = i
@@ -222,20 +219,20 @@ class Analysis(Walker):
         if name in ANSWERING:
             if not self.exported.endswith(ANSWERS):
                 raise IsWrong("a comparison whose answer is not that of the call")
-            if not m.is_bit(self.cpu(m).answer()[0]):
+            if not m.is_bit(self.cpu(m).result_register()[0]):
                 raise CannotShow("the answer of %s may have more values than 0 and 1" % name)
-            self.cpu(m).set_answer([(m.new(8, "answer", (0, 1, 1)), 0)])
+            self.cpu(m).set_result_bytes([(m.new_public_variable(8, "answer", (0, 1, 1)), 0)])
         elif name in FINALIZING:
-            need_zeros(m, next(b for b in m.regions if b.args == "state0"))
+            need_wiped_state(m, next(b for b in m.regions if b.args == "state0"))
         return [m]
 
 
-def in_round(m: Any) -> str:
+def rounds_text(m: Any) -> str:
     """The rounds as text, for the names of variables."""
     return "".join(":%x=%d" % pair for pair in m.rounds)
 
 
-def rounds_at(m: Any, head: int, origin: int) -> tuple:
+def rounds_after_jump(m: Any, head: int, origin: int) -> tuple:
     """How often a machine that jumps back to a loop's head has passed the heads of loops by jumps that were decided
     by numbers. Such rounds are kept apart, so that the loop is unrolled."""
     rounds = {h: n for h, n in m.rounds if not head < h <= origin}
@@ -244,7 +241,7 @@ def rounds_at(m: Any, head: int, origin: int) -> tuple:
     return tuple(sorted(rounds.items()))
 
 
-def compress(m: Any, arguments: list, name: str, kind: Kind, lanes: int) -> None:
+def apply_compression(m: Any, arguments: list, name: str, kind: HashFamily, lanes: int) -> None:
     """A call of a function that compresses, of which compression.py shows what it does."""
     used, tables = arguments[:4], []
     if lanes == 1:
@@ -266,20 +263,20 @@ def exports(program: programs.Program) -> Iterator:
         m = NAME.fullmatch(name)
         if not m or name not in SIGNATURES:
             raise CannotShow("the arguments of %s are not known: %s does not declare it" % (name, HEADER))
-        program.extent(name)           # refuses what is not a function, or may be another's
+        program.address_range(name)           # refuses what is not a function, or may be another's
         if not m[2].endswith(OF_ARRAYS):
-            yield name, kinds_of(m[1], SIGNATURES[name]), m[1]
+            yield name, argument_kinds(m[1], SIGNATURES[name]), m[1]
 
 
-def show(program: programs.Program, name: str, kinds: tuple, family: str) -> Analysis:
-    """Follows a call, or raises Refused. Returns the analysis."""
-    analysis = Analysis(program, name)
+def follow_call(program: programs.Program, name: str, kinds: tuple, family: str) -> TaintAnalysis:
+    """Follows a call, or raises ClaimNotShown. Returns the analysis."""
+    analysis = TaintAnalysis(program, name)
 
     def follow_from(alignment: tuple, has_key: bool) -> None:
         T.reset()
-        check(analysis.run(name, called(program, kinds, family, alignment, has_key)), name)
+        check_after_call(analysis.run(name, state_at_entry(program, kinds, family, alignment, has_key)), name)
     for has_key in (False, True)[:1 + (KEY in kinds)]:
-        analysis.at_alignments(lambda: name, partial(follow_from, has_key=has_key))
+        analysis.for_each_stack_alignment(lambda: name, partial(follow_from, has_key=has_key))
     missed = [n for end, n in CALLED.items() if name == "vulfsjor_ffi_%s%s" % (family, end)
               and family in FAMILIES and n % family not in analysis.entered]
     if missed:
@@ -288,11 +285,11 @@ def show(program: programs.Program, name: str, kinds: tuple, family: str) -> Ana
     return analysis
 
 
-def follow(program: programs.Program, entry: tuple) -> Analysis | None:
+def follow_call_or_skip(program: programs.Program, entry: tuple) -> TaintAnalysis | None:
     """The same, or None for a function of NOT_SHOWN for which no bound is known, and which must not be shown."""
     name = entry[0]
     try:
-        found = show(program, *entry)
+        found = follow_call(program, *entry)
     except CannotShow as e:
         if (program.path, name) in NOT_SHOWN and ": no bound is known for " in str(e):
             return None
@@ -302,23 +299,23 @@ def follow(program: programs.Program, entry: tuple) -> Analysis | None:
     return found
 
 
-def check(m: Taint, name: str) -> None:
+def check_after_call(m: TaintState, name: str) -> None:
     """What must hold after a call: the result and the public fields of structs do not depend on a secret, so that the
     next call may assume it, and a wiped state is zero."""
     for base, region in m.regions.items():
         if not region.writable or region.uniform or base is m.stack:
             continue
         if name.endswith("_wipe"):
-            need_zeros(m, base)
+            need_wiped_state(m, base)
         for k in range(region.high):
             if is_secret(m.byte(base, k)) and not is_secret(region.initial(k)):
                 raise IsWrong("byte %d of %s, which is public, depends on a secret" % (k, base.args))
     if not name.endswith(ANSWERS + ("_wipe",)):
-        need_public(T.word(m.processor(m).answer()[:4]), "the result")
+        need_public(T.word(m.processor(m).result_register()[:4]), "the result")
 
 
-def need_zeros(m: Any, state: T.Term) -> None:
+def need_wiped_state(m: Any, state: T.Term) -> None:
     """Refuses a state of which a byte may not be zero."""
-    for k, b in enumerate(m.left(state, m.regions[state].high)):
+    for k, b in enumerate(m.first_bytes(state, m.regions[state].high)):
         if b != 0:
             raise IsWrong("byte %d of the state is not overwritten" % k)

@@ -34,7 +34,7 @@ class Elf:
                     name=text_at(self.sections[header[6]].data, name), type=info & 15, binding=info >> 4, section=of,
                     is_hidden=other & 3 == HIDDEN, place=place))
 
-    def places(self) -> list:
+    def symbol_places(self) -> list:
         """The address, section, size and name of each symbol in a section. That of a section has its name."""
         named = [(s, self.sections[s.section].name) for s in self.symbols if UNDEFINED < s.section < len(self.sections)]
         return [(s.place[0], section, s.place[1], s.name or section) for s, section in named]
@@ -55,7 +55,7 @@ def macros(kind: str) -> tuple[dict[str, tuple[list[str], list[str]]], list[str]
     return found, macro.sub("", text).splitlines()
 
 
-def lines_of(line: str, kind: str) -> list[str]:
+def expand_line(line: str, kind: str) -> list[str]:
     """The lines that a line of a text stands for."""
     word, _, rest = line.lstrip("\t").partition("\t")
     if word not in macros(kind)[0]:
@@ -63,11 +63,11 @@ def lines_of(line: str, kind: str) -> list[str]:
     parameters, body = macros(kind)[0][word]
     values = dict(zip(parameters, rest.split(", "), strict=True))
     filled = [re.sub(r"\\(\w+)", lambda m: values[str(m[1])], each) for each in body]
-    return [part for each in filled for part in lines_of(each, kind)]
+    return [part for each in filled for part in expand_line(each, kind)]
 
 
 def expanded(path: str, kind: str) -> str:
     """The text of a file for ELF without macros, with the marks that dist/macros.h gives it."""
     with open(os.path.join(ROOT, path), encoding="utf-8") as f:
         lines = ["\tvj_marks", *f.read().split("\n")]
-    return "\n".join([*macros(kind)[1], *(part for line in lines for part in lines_of(line, kind))])
+    return "\n".join([*macros(kind)[1], *(part for line in lines for part in expand_line(line, kind))])

@@ -32,22 +32,20 @@ CONTROL = {
 
 
 @functools.lru_cache(maxsize=None)
-def form(kind: str, text: str) -> str:
-    """The form of an instruction as objdump shows it, or as a test has it."""
+def form_of_instruction(kind: str, text: str) -> str:
     code = " ".join(text.partition("#" if kind == "x86_64" else "//")[0].split())
     if x86.NOP.fullmatch(code):
         return "nop"
     name, _, rest = code.partition(" ")
     rest = re.sub(r"\b[0-9a-f]+ <.*>$", "there", rest)         # a jump, a call, or an address
     pieces = [p.strip() for p in re.findall(r"\[[^]]*\]!?|[^,\[]+(?:\[[^]]*\]!?)?", rest)]
-    operand = of_x86 if kind == "x86_64" else of_arm
+    operand = form_of_x86_operand if kind == "x86_64" else form_of_arm_operand
     registers = [p for p in pieces if not re.fullmatch(NUMBER, p)][-2:]
     same = "=" * (len(registers) == 2 and registers[0] == registers[1] and "[" not in registers[0])
     return ("%s %s" % (name, ",".join(operand(name, p) for p in pieces))).strip() + same
 
 
-def of_x86(name: str, text: str) -> str:
-    """The kind of an operand."""
+def form_of_x86_operand(name: str, text: str) -> str:
     register, brace, mask = text.partition("{")
     mask = re.sub(r"\d", "", brace + mask)
     if register in x86.REGISTER:
@@ -58,18 +56,17 @@ def of_x86(name: str, text: str) -> str:
         return re.sub(r"\br\w+", "r", re.sub(r"(?<!\*)0x[0-9a-f]+", "n", m[3]))
     if m:
         return "m%s%s" % (x86.SIZES.get(m[1] or "", ""), "*" * (m[2] == "BCST")) + re.sub(r"\d", "", m[4])
-    return number(name, text)
+    return form_of_number(name, text)
 
 
-def of_arm(name: str, text: str) -> str:
-    """The same for ARM."""
+def form_of_arm_operand(name: str, text: str) -> str:
     if text.startswith("["):
         text = re.sub(r"\b([xw])(\d+|zr)\b", r"\1", text).replace("[sp", "[x").replace(", ", ",")
         return text if "lsl" in text or "xtw" in text else re.sub(r"(?<!\w)" + NUMBER, "n", text)
-    return number(name, re.sub(r"\b([xwvqdsbh])\d+\b", r"\1", "x" if text == "sp" else text))
+    return form_of_number(name, re.sub(r"\b([xwvqdsbh])\d+\b", r"\1", "x" if text == "sp" else text))
 
 
-def number(name: str, text: str) -> str:
+def form_of_number(name: str, text: str) -> str:
     """A number of a form, or what stands for all of a class."""
     if not re.fullmatch(NUMBER, text) or name not in ANY_NUMBER:
         return text.replace(" ", "_")
@@ -78,7 +75,7 @@ def number(name: str, text: str) -> str:
 
 
 @functools.lru_cache(maxsize=None)
-def known() -> frozenset:
+def known_forms() -> frozenset:
     """All forms of the table, each with the processor and the model."""
     found: set = set()
     with open(TABLE, encoding="ascii") as f:
@@ -98,8 +95,7 @@ def known() -> frozenset:
     return frozenset(found)
 
 
-def write(found: set) -> None:
-    """Writes the table."""
+def write_table(found: set) -> None:
     users: dict = {}
     for kind, user, each in sorted(found):
         users[kind, each] = users.get((kind, each), "") + user
@@ -117,9 +113,9 @@ def write(found: set) -> None:
                 " ".join(words), 120, initial_indent="  ", subsequent_indent="  ", break_on_hyphens=False)))
 
 
-def check(kind: str, user: str, text: str) -> None:
+def check_form_is_known(kind: str, user: str, text: str) -> None:
     """Refuses an instruction of a form that a model has not been tried with."""
-    found = form(kind, text)
-    if not CONTROL[kind].fullmatch(found) and (kind, user, found) not in known():
+    found = form_of_instruction(kind, text)
+    if not CONTROL[kind].fullmatch(found) and (kind, user, found) not in known_forms():
         raise CannotShow("the form of %s was not run on the processor: %s: run tests/machine/check.py --forms"
                          % (" ".join(text.split()), found))

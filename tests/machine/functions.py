@@ -48,7 +48,7 @@ FILES = {
 }
 
 
-def scrubs(program: "Program") -> dict:
+def stack_scrub_functions(program: "Program") -> dict:
     """The functions of a file that overwrite the stack, with their numbers of bytes."""
     found = (re.fullmatch(re.escape(SCRUB_STACK) + r"(\d+)", name) for name in program.functions)
     return {m[0]: int(m[1]) for m in found if m}
@@ -59,8 +59,7 @@ def architecture(path: str) -> str:
     return next((kind for kind in ("x86_64", "aarch64") if "/%s/" % kind in path), "wasm")
 
 
-def in_file(path: str, name: str) -> str:
-    """A function's name as the file writes it."""
+def name_in_file(path: str, name: str) -> str:
     return name.replace("..", "::") if architecture(path) == "wasm" else name
 
 
@@ -78,10 +77,10 @@ _SHIFTS = {
 }
 
 
-def unlisted(program: "Program") -> list:
+def unlisted_rotating_functions(program: "Program") -> list:
     """The functions outside of the file's list that may have a copy of G."""
-    listed = {in_file(program.path, name) for name, _, _ in FILES[program.path]}
-    texts = {name: "\n".join(program.texts(name)) for name in program.functions if name not in listed}
+    listed = {name_in_file(program.path, name) for name, _, _ in FILES[program.path]}
+    texts = {name: "\n".join(program.instruction_texts(name)) for name in program.functions if name not in listed}
     shifts = {name: {int(n, 0) for n in _SHIFTS[program.kind].findall(text)} for name, text in texts.items()}
     return [name for name, text in texts.items()
             if _ROTATES[program.kind].search(text) or 63 in shifts[name] or {7, 12} <= shifts[name]]

@@ -1,6 +1,6 @@
 /* A program that calls functions as the calling convention allows, and is their C library. What a function need not
-   keep is overwritten before each call, and by memcpy, memmove and memset: registers, masks, flags, and the stack below.
-   hostile.c has the block of a call.  */
+   keep is overwritten before each call, and by memcpy, memmove and memset: registers, masks, flags, and the stack
+   below. hostile.c has the block of a call.  */
 #define MASKS 8
 #define LEAVES 16
 #define RESULT 24
@@ -12,7 +12,7 @@
 #define OWN (JUNK + 1024)
 #define FILLED 1984
 	.text
-	.globl	_start, call, memcpy, memmove, memset
+	.globl	_start, system_call, memcpy, memmove, memset
 #ifdef __x86_64__
 /* The general registers but those of arguments and rsp; vectors and masks; flags but the direction.  */
 	.macro	overwrite
@@ -61,7 +61,7 @@ returns:
 	popq	%rax
 	retq
 
-call:	movl	%ecx, %eax
+system_call:	movl	%ecx, %eax
 	syscall
 	retq
 
@@ -130,17 +130,17 @@ _start:	callq	read_block
 	.endr
 	.endm
 
-	.macro	library f
+	.macro	call_c_function f
 	adrp	x9, block
 	str	x30, [x9, #LINK]
 	bl	\f
 	.endm
 
-memset:	library	fill
+memset:	call_c_function	fill
 	b	returns
 memcpy:
 memmove:
-	library	copy
+	call_c_function	copy
 returns:
 	overwrite
 	.irp	n, 1,2,3,4,5,6,7
@@ -150,7 +150,7 @@ returns:
 	ldr	x30, [x9, #LINK]
 	ret
 
-call:	mov	x8, x3
+system_call:	mov	x8, x3
 	svc	#0
 	ret
 

@@ -16,13 +16,13 @@ struct {
     char memory[ROOM], below[DEEP];
 } block __attribute__((aligned(4096)));
 
-long call(long, void *, long, long number);
+long system_call(long, void *, long, long number);
 
 void read_block(void) {
     for (long size = 0, n; size < (long)sizeof block; size += n) {
-        n = call(0, (char *)&block + size, sizeof block - size, READ);
+        n = system_call(0, (char *)&block + size, sizeof block - size, READ);
         if (n <= 0)
-            call(0, 0, 0, EXIT);
+            system_call(0, 0, 0, EXIT);
     }
 }
 
@@ -32,7 +32,7 @@ void write_block(unsigned long other, const char *stack) {
     block.is_other = other;
     for (long k = 0; k < DEEP; k++)
         block.below[k] = stack[k - DEEP];
-    call(1, &block, sizeof block, WRITE);
+    system_call(1, &block, sizeof block, WRITE);
 }
 
 char *fill(char *to, int byte, unsigned long n) {

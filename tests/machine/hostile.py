@@ -26,7 +26,7 @@ class Crash(Exception):
     """The program has ended."""
 
 
-class Hostile:
+class HostileProgram:
     """A program of a text and hostile.S, whose functions can be called."""
 
     def __init__(self, path: str, text: str, *options: str) -> None:
@@ -42,13 +42,13 @@ class Hostile:
         self.is_arm, self.process = bool(prefix), cast(Any, None)
         with open("/proc/cpuinfo") as f:
             self.masks = int("avx512bw" in f.read())
-        self.start(bytes(JUNK), 0, 0)
+        self.prepare_call(bytes(JUNK), 0, 0)
 
-    def start(self, junk: bytes, leaves: int, tag: int) -> None:
+    def prepare_call(self, junk: bytes, leaves: int, tag: int) -> None:
         """Begins a call with no memory yet. It overwrites by `junk`."""
         self.junk, self.leaves, self.tag, self.memory = junk, leaves, tag, b""
 
-    def place(self, data: bytes) -> int:
+    def place_in_memory(self, data: bytes) -> int:
         """Where some bytes are in the memory of the call."""
         at = len(self.memory) + -len(self.memory) % 8
         self.memory = self.memory.ljust(at, b"\0") + data
@@ -63,7 +63,6 @@ class Hostile:
         return self.addresses["block"] + ARENA + at | self.tag
 
     def call(self, name: str, numbers: list) -> int:
-        """The result of a function."""
         if self.process is None:
             self.process = subprocess.Popen(["qemu-aarch64"] * self.is_arm + [self.exe], stdin=subprocess.PIPE,
                                             stdout=subprocess.PIPE, stderr=subprocess.DEVNULL)

@@ -6,7 +6,7 @@ from typing import Any
 import rfc7693 as R
 import terms as T
 from machine import chunks
-from symbolic import below, name_of
+from symbolic import choose_if_below, definition_of_byte
 from terms import CannotShow, IsWrong
 
 SEEDS, BLOCKS = 4, 8                   # of random bytes; and the most blocks that are compressed
@@ -14,7 +14,7 @@ RESULT = re.compile(r"(?:F|blocks)(\d+)\.(\d+)")              # names a word of 
 KINDS = {kind.name: kind for kind in (R.BLAKE2B, R.BLAKE2S)}
 
 
-class Example(T.Numbers):
+class ExampleNumbers(T.RandomNumbers):
     """The numbers that a model has, random ones for other inputs, and what follows from these. A variable that a path
     has made has no number, except undefined bytes of the stack."""
 
@@ -22,15 +22,15 @@ class Example(T.Numbers):
         super().__init__(seed, tuple(names.items()))
         self.results = {n: what for what, n in results.items()}
 
-    def byte(self, b: Any) -> int:
+    def byte_value(self, b: Any) -> int:
         return b if isinstance(b, int) else T.value(b[0], self, {}) >> 8 * b[1] & 255
 
     def __missing__(self, name: Any) -> int:
         if isinstance(name, tuple):
-            number = self.of_tuple(*name)
+            number = self.value_of_derived_byte(*name)
         elif RESULT.fullmatch(name):
             result, k = map(int, RESULT.fullmatch(name).groups())      # type: ignore[union-attr]
-            number = self.chain(*self.results[result])[k]
+            number = self.chaining_words(*self.results[result])[k]
         elif "~" in name and not name.startswith("stack"):
             raise CannotShow("the number of %s is not known" % name)
         else:
@@ -38,47 +38,49 @@ class Example(T.Numbers):
         self[name] = number
         return number
 
-    def of_tuple(self, what: str, *rest: Any) -> int:
+    def value_of_derived_byte(self, what: str, *rest: Any) -> int:
         """A choice, an or or a comparison of bytes, or a byte of a buffer."""
         if what == "below":
             j, n, a, b = rest
-            return self.byte(a if j < T.value(n, self, {}) else b)
+            return self.byte_value(a if j < T.value(n, self, {}) else b)
         if what in ("any", "zero"):
             total = 0
             for b in rest[0]:
-                total |= self.byte(b)
+                total |= self.byte_value(b)
             return total if what == "any" else int(total == 0)
         return super().__missing__("%s at %d" % (what, T.value(rest[0], self, {}))) & 255
 
-    def chain(self, what: str, name: str, chain: tuple, *rest: Any) -> list:
+    def chaining_words(self, what: str, name: str, chain: tuple, *rest: Any) -> list:
         """The chaining words after one block, or after the blocks of a buffer."""
-        kind, data = KINDS[name], [self.byte(b) for b in chain]
+        kind, data = KINDS[name], [self.byte_value(b) for b in chain]
         if what == "F":
             block, count, last, node = rest
-            data = R.compress(kind, data, [self.byte(b) for b in block], T.value(count, self, {}), last, node)
+            block = [self.byte_value(b) for b in block]
+            data = R.compress_block(kind, data, block, T.value(count, self, {}), last, node)
         else:
             start, blocks, count = (T.value(t, self, {}) for t in rest[1:])
             if blocks > BLOCKS:
                 raise CannotShow("there are more than %d blocks" % BLOCKS)
-            data = R.compress_all(kind, data, lambda j: self.of_tuple(rest[0], T.const(64, j)), start, blocks, count)
+            byte = lambda j: self.value_of_derived_byte(rest[0], T.const(64, j))
+            data = R.compress_blocks(kind, data, byte, start, blocks, count)
         return [int.from_bytes(bytes(word), "little") for word in chunks(data, kind.bytes)]
 
 
-def difference(facts: Any, results: dict, x: T.Byte, y: T.Byte) -> str | None:
+def inputs_where_bytes_differ(facts: Any, results: dict, x: T.Byte, y: T.Byte) -> str | None:
     """Numbers for which all facts of a path hold and two bytes differ, as text, or None."""
     for limit in (5, 1000, None):
-        model = facts.small(limit)
+        model = facts.model_below(limit)
         for seed in range(1, SEEDS + 1) if model else ():
-            numbers = Example(seed, model, results)
+            numbers = ExampleNumbers(seed, model, results)
             try:
-                if all(facts.holds_for(numbers)) and numbers.byte(x) != numbers.byte(y):
-                    return model.shown()
+                if all(facts.facts_hold_for(numbers)) and numbers.byte_value(x) != numbers.byte_value(y):
+                    return model.inputs_text()
             except CannotShow:
                 break
     return None
 
 
-class Alike:
+class ByteEquality:
     """Which bytes are the same by what a path knows: of the numbers by which they are chosen, and of what was
     compressed. `results` has the compressions of the path."""
 
@@ -87,35 +89,36 @@ class Alike:
         self.found: dict = {}          # pairs of compressions -> whether their arguments are the same
 
     def __call__(self, x: T.Byte, y: T.Byte) -> bool:
-        x, y = self.settled(x), self.settled(y)
+        x, y = self.with_known_values(x), self.with_known_values(y)
         if x == y:
             return True
-        (kind, *p), (other, *q) = name_of(x), name_of(y)
+        (kind, *p), (other, *q) = definition_of_byte(x), definition_of_byte(y)
         if "below" in (kind, other) and kind != other:
             chosen, z = (p, y) if kind == "below" else (q, x)
-            return self.settled(below(self.m, *chosen)) == z
+            return self.with_known_values(choose_if_below(self.m, *chosen)) == z
         if kind == "below":
-            return p[0] == q[0] and self.m.is_always("==", p[1], q[1]) and all(map(self, p[2:], q[2:]))
-        a, b = result_of(x), result_of(y)
-        return bool(a and b) and a[1:] == b[1:] and self.are_results(a[0], b[0])
+            return p[0] == q[0] and self.m.relation_always_holds("==", p[1], q[1]) and all(map(self, p[2:], q[2:]))
+        a, b = compression_of_byte(x), compression_of_byte(y)
+        return bool(a and b) and a[1:] == b[1:] and self.compressions_are_equal(a[0], b[0])
 
-    def settled(self, b: T.Byte) -> T.Byte:
+    def with_known_values(self, b: T.Byte) -> T.Byte:
         """A byte, in which variables of which the value is known are numbers."""
-        return b if isinstance(b, int) else T.split(T.substitute(b[0], self.m.path_facts.values(), self.memo))[b[1]]
+        values = self.m.path_facts.known_values()
+        return b if isinstance(b, int) else T.split(T.substitute(b[0], values, self.memo))[b[1]]
 
-    def are_results(self, a: int, b: int) -> bool:
-        """Whether two compressions are of the same."""
+    def compressions_are_equal(self, a: int, b: int) -> bool:
         if (a, b) not in self.found:
-            self.found[a, b] = all(map(self.are_arguments, self.results[a], self.results[b]))
+            self.found[a, b] = all(map(self.arguments_are_equal, self.results[a], self.results[b]))
         return self.found[a, b]
 
-    def are_arguments(self, p: Any, q: Any) -> bool:
+    def arguments_are_equal(self, p: Any, q: Any) -> bool:
         if isinstance(p, tuple):
             return all(map(self, p, q))
-        return p is q or p == q or isinstance(p, T.Term) and isinstance(q, T.Term) and self.m.is_always("==", p, q)
+        are_terms = isinstance(p, T.Term) and isinstance(q, T.Term)
+        return p is q or p == q or are_terms and self.m.relation_always_holds("==", p, q)
 
 
-def result_of(b: T.Byte) -> tuple:
+def compression_of_byte(b: T.Byte) -> tuple:
     """Of a byte of a compression's chaining words: the number of this, and those of the word and the byte in it."""
     if isinstance(b, int) or b[0].op != "var" or not isinstance(b[0].args, str):
         return ()
@@ -127,13 +130,13 @@ def need_same(m: Any, results: dict, what: str, found: list, wanted: list) -> No
     """Refuses other bytes than are wanted. `results` has the compressions of the path."""
     if len(found) != len(wanted):
         raise CannotShow("%s: %d bytes, not %d" % (what, len(found), len(wanted)))
-    are_alike = Alike(m, results)
+    are_alike = ByteEquality(m, results)
     for k, (x, y) in enumerate(zip(found, wanted)):
         if x == y or are_alike(x, y):
             continue
         a, b = T.word([x]), T.word([y])
-        if not (a.taint | b.taint) & ~T.PUBLIC and m.is_always("==", a, b):
+        if not (a.taint | b.taint) & ~T.PUBLIC and m.relation_always_holds("==", a, b):
             continue                   # they are the same by what the path knows of public bytes
         text = "byte %d of %s is %s, not %s" % (k, what, T.show(x, 4), T.show(y, 4))
-        inputs = difference(m.path_facts, results, x, y)
+        inputs = inputs_where_bytes_differ(m.path_facts, results, x, y)
         raise IsWrong("%s: for %s" % (text, inputs)) if inputs else CannotShow(text)

@@ -17,7 +17,7 @@ import functions
 import wasm
 import x86
 from elf import ROOT
-from machine import Cells, image
+from machine import MemoryRegion, load_address
 from terms import CannotShow, IsWrong
 
 sys.path.append(os.path.join(ROOT, "tools"))
@@ -62,7 +62,7 @@ class NotAssembled(CannotShow):
 
 
 PLAIN: dict = {}                       # the lines without directives that check_text has seen, by the processor
-READ: set = set()                      # the paths of files that a check has read, for kept.py
+READ: set = set()                      # the paths of files that a check has read, for verdict_cache.py
 
 
 def read(path: str) -> "Program":
@@ -74,7 +74,7 @@ def read(path: str) -> "Program":
 read_once: Callable = functools.lru_cache(maxsize=None)(lambda path: Program(path))
 
 
-def source(path: str) -> Any:
+def editable_source(path: str) -> Any:
     """What is changed in a file: its text for ELF, or the lines of the functions of a module, by their names."""
     READ.add(path)
     kind = functions.architecture(path)
@@ -100,14 +100,15 @@ def unchanged(text: Any) -> Any:
 
 
 class Program:
-    """The functions of a file, by name without version, as lines of text. `edit` changes its source() first."""
+    """The functions of a file, by name without version, as lines of text. `edit` changes its editable_source()
+    first."""
 
     def __init__(self, path: str, edit: Callable = unchanged) -> None:
         self.path, self.kind, self.is_original = path, functions.architecture(path), edit is unchanged
         self.model, self.width = MODELS[self.kind], 64
-        self.codes: dict = {}          # what code() has read
-        self.extents: dict = {}        # and extent()
-        self.contents: dict = {}       # what content() has returned
+        self.codes: dict = {}          # what instructions_of() has read
+        self.extents: dict = {}        # and address_range()
+        self.contents: dict = {}       # what content_hash() has returned
         (self.read_module if self.kind == "wasm" else self.read_text)(edit)
 
     def read_module(self, edit: Callable) -> None:
@@ -125,8 +126,7 @@ class Program:
         self.functions = edit({n: f.lines for n, f in self.signatures.items()})
 
     def read_text(self, edit: Callable) -> None:
-        """The functions of an assembly text."""
-        text = edit(source(self.path))
+        text = edit(editable_source(self.path))
         check_text(text, self.kind)
         compiler, prefix, _ = TOOLS[self.kind]
         with tempfile.TemporaryDirectory() as d:
@@ -143,13 +143,13 @@ class Program:
             with open(so, "rb") as f:
                 self.linked = f.read()
         self.constants = constants(linked)
-        self.symbols = [s for s in linked.places() if not MAPPING.fullmatch(s[3])]
+        self.symbols = [s for s in linked.symbol_places() if not MAPPING.fullmatch(s[3])]
         self.functions = dict.fromkeys(without_version(s[3]) for s in self.symbols if s[1] == CODE != s[3])
 
     def lines(self, name: str) -> list:
         """The lines of a function: of assembly those of objdump, once for all of a text that is not changed."""
         if self.functions[name] is None:
-            start, end = self.extent(name)
+            start, end = self.address_range(name)
             shown = self.disassembled() if self.is_original else self.disassembled(
                 "--start-address=%d" % start, "--stop-address=%d" % end)
             self.functions.update((n, lines) for n, lines in shown.items() if n in self.functions)
@@ -206,21 +206,21 @@ class Program:
         self.callable = {s.name for s in file.symbols
                          if s.type == elf.FUNCTION and s.binding in (elf.LOCAL, elf.GLOBAL)}
 
-    def target(self, i: Any, external: tuple) -> str:
+    def called_function_name(self, i: Any, external: tuple) -> str:
         """The name without version of the function that a call or a jump goes to: to its start, or to one of these
         functions of another file, of whose names the file itself has none."""
-        shown = found(r"<(.*)>", i.text)[1]
+        shown = require_match(r"<(.*)>", i.text)[1]
         name, _, rest = shown.partition("@")
         if rest == "plt" and name in self.external:
             if name in external:
                 return name
             raise CannotShow("a call of %s" % name)
         name = without_version(shown)
-        if name not in self.functions or self.extent(name)[0] != i.target:
+        if name not in self.functions or self.address_range(name)[0] != i.target:
             raise IsWrong("it goes to %s, not to the start of a function" % shown)
         return name
 
-    def code(self, name: str, user: str | None = None) -> list:
+    def instructions_of(self, name: str, user: str | None = None) -> list:
         """The instructions of a function. Each must have a form of forms.txt for its user, if there is one."""
         if name not in self.functions:
             raise CannotShow("%s has no function %s: the compiler may have inlined it, or it has "
@@ -228,12 +228,11 @@ class Program:
         if name not in self.codes:
             self.codes[name] = wasm.parse(self.lines(name)) if self.kind == "wasm" else self.instructions(name)
         for i in self.codes[name] if user and self.kind != "wasm" else ():
-            forms.check(self.kind, str(user), i.text)
+            forms.check_form_is_known(self.kind, str(user), i.text)
         return self.codes[name]
 
     def instructions(self, name: str) -> list:
-        """The instructions of an assembly function."""
-        start, end = self.extent(name)
+        start, end = self.address_range(name)
         later = LATER.get(self.path.rpartition("-")[2])
         found, filled = [], set()
         for line in self.lines(name):
@@ -260,18 +259,18 @@ class Program:
             raise CannotShow("objdump does not show all bytes of %s, one after the other" % name)
         return found
 
-    def content(self, name: str) -> str:
+    def content_hash(self, name: str) -> str:
         """The hash of all that executing a function depends on: its instructions, and constants from its start on."""
         if name not in self.contents:
             found: tuple = self.kind, self.lines(name)
             if self.kind != "wasm":
                 start, data = self.constants
-                found = start - self.extent(name)[0], data, [
+                found = start - self.address_range(name)[0], data, [
                     m.groups()[1:] for m in map(LINE.match, self.lines(name)) if m]
             self.contents[name] = hashlib.sha256(repr(found).encode()).hexdigest()
         return self.contents[name]
 
-    def extent(self, name: str) -> tuple:
+    def address_range(self, name: str) -> tuple:
         """Where the code of a function begins and ends. No other symbol may be in it."""
         if name in self.extents:
             return self.extents[name]
@@ -291,7 +290,7 @@ class Program:
 
     def check_relocation(self, i: Any, line: str) -> None:
         """Refuses a number that the linker fills in, except the address of a constant or of a called function."""
-        at, kind, symbol, plus = found(r"([0-9a-f]+): (R_\w+)\t(.*?)([+-]0x[0-9a-f]+)?$", line).groups()
+        at, kind, symbol, plus = require_match(r"([0-9a-f]+): (R_\w+)\t(.*?)([+-]0x[0-9a-f]+)?$", line).groups()
         symbols = [s for s in self.symbols if s[3] == symbol]
         if i.name in ("call", "bl", "b") or i.name.startswith("j"):
             is_right = kind in OF_CALLS
@@ -305,19 +304,18 @@ class Program:
         if not is_right:
             raise CannotShow("the linker fills in a number of %s: %s of %s" % (i.text, kind, symbol))
 
-    def texts(self, name: str) -> list:
+    def instruction_texts(self, name: str) -> list:
         """The instructions of a function, as text without comments."""
         if self.kind == "wasm":
             return self.lines(name)
         comment = "#" if self.kind == "x86_64" else "//"
         return [" ".join(m[3].partition(comment)[0].split()) for m in map(LINE.match, self.lines(name)) if m]
 
-    def memory(self) -> dict:
+    def constants_memory(self) -> dict:
         """The memory of the constants, by its address."""
-        return {image(): Cells(0, 1 << 32, self.constant, False, (4096, 0))}
+        return {load_address(): MemoryRegion(0, 1 << 32, self.constant, False, (4096, 0))}
 
     def constant(self, address: int) -> int:
-        """The byte of the constants at an address."""
         start, data = self.constants
         if not start <= address < start + len(data) or data[address - start] is None:
             raise CannotShow("no constant is known at %#x" % address)
@@ -325,15 +323,14 @@ class Program:
 
 
 @functools.lru_cache(maxsize=None)
-def predefined(kind: str) -> set:
+def predefined_macros(kind: str) -> set:
     """The names that a compiler replaces in a text for its preprocessor, such as linux."""
     command = TOOLS[kind][0] + ["-dM", "-E", "-x", "assembler-with-cpp", os.devnull]
     found = subprocess.run(command, check=True, stdout=subprocess.PIPE, text=True).stdout
     return set(re.findall(r"^#define (\w+)", found, re.M))
 
 
-def found(pattern: str, text: str) -> Any:
-    """The match of a pattern that is in a text."""
+def require_match(pattern: str, text: str) -> Any:
     m = re.search(pattern, text)
     if not m:
         raise CannotShow("%s has not the form %s" % (text, pattern))
@@ -360,7 +357,7 @@ def directives(line: str, kind: str) -> list:
     code = IGNORED.sub("", line)
     if OTHER.search(code):
         raise CannotShow("a comment, or a symbol with a value: %s" % line)
-    replaced = predefined(kind) & set(re.findall(r"[A-Za-z_]\w*", code))
+    replaced = predefined_macros(kind) & set(re.findall(r"[A-Za-z_]\w*", code))
     if replaced:
         raise CannotShow("a preprocessor replaces %s, and dist/vulfsjor.S includes the text" % min(replaced))
     found = [(m[1].lower(), m[2]) for m in DIRECTIVE.finditer(line)]

@@ -23,7 +23,7 @@ COLUMNS_AND_DIAGONALS = (
 )
 
 
-class Kind:
+class HashFamily:
     """The numbers of a family (2.1)."""
 
     def __init__(self, name: str, w: int, rounds: int, rotations: Any) -> None:
@@ -31,10 +31,10 @@ class Kind:
         self.bytes = w // 8
         self.block = 2 * w
         # The first w bits of the fractions of the square roots of the first eight primes (2.6).
-        self.iv = [root_bits(p, w) for p in (2, 3, 5, 7, 11, 13, 17, 19)]
+        self.iv = [square_root_fraction(p, w) for p in (2, 3, 5, 7, 11, 13, 17, 19)]
 
 
-def root_bits(n: Any, w: int) -> Any:
+def square_root_fraction(n: Any, w: int) -> Any:
     """The first w bits of the fraction of the square root of n."""
     square, x = n << (2 * w), 1 << (w + 3)
     while x * x > square:
@@ -42,27 +42,27 @@ def root_bits(n: Any, w: int) -> Any:
     return x & ((1 << w) - 1)
 
 
-BLAKE2B = Kind("blake2b", 64, 12, (32, 24, 16, 63))
-BLAKE2S = Kind("blake2s", 32, 10, (16, 12, 8, 7))
+BLAKE2B = HashFamily("blake2b", 64, 12, (32, 24, 16, 63))
+BLAKE2S = HashFamily("blake2s", 32, 10, (16, 12, 8, 7))
 
 
-def compress(kind: Kind, chain: list, block: list, count: int, last: int, node: int) -> list:
+def compress_block(kind: HashFamily, chain: list, block: list, count: int, last: int, node: int) -> list:
     """The bytes of the chaining words after a block, of numbers: bytes, a counter, and flags that are 0 or 1."""
     words = lambda data: [int.from_bytes(data[k:k + kind.bytes], "little") for k in range(0, len(data), kind.bytes)]
     low, high, f0, f1 = (n & (1 << kind.w) - 1 for n in (count, count >> kind.w, -last, -node))
-    found = F(kind, words(bytes(chain)), words(bytes(block)), low, high, f0, f1, Numbers)
+    found = F(kind, words(bytes(chain)), words(bytes(block)), low, high, f0, f1, NumberWords)
     return [b for n in found for b in n.to_bytes(kind.bytes, "little")]
 
 
-def compress_all(kind: Kind, chain: list, data: Callable, start: int, blocks: int, count: int) -> list:
+def compress_blocks(kind: HashFamily, chain: list, data: Callable, start: int, blocks: int, count: int) -> list:
     """The same after some blocks of data, of which data(j) is a byte."""
     for at in range(0, blocks * kind.block, kind.block):
         block = [data(start + at + j) for j in range(kind.block)]
-        chain = compress(kind, chain, block, count + at + kind.block, 0, 0)
+        chain = compress_block(kind, chain, block, count + at + kind.block, 0, 0)
     return chain
 
 
-class Numbers:
+class NumberWords:
     """The operations of F on numbers, as terms.py has them on terms."""
 
     const = staticmethod(lambda w, n: n)
@@ -71,7 +71,7 @@ class Numbers:
     ror = staticmethod(lambda w, n, k: (n >> k | n << w - k) & (1 << w) - 1)
 
 
-def F(kind: Kind, h: list, m: list, low: Any, high: Any, last: Any, last_node: Any, words: Any = T) -> list:
+def F(kind: HashFamily, h: list, m: list, low: Any, high: Any, last: Any, last_node: Any, words: Any = T) -> list:
     """The chaining words after a block. `low` and `high` are the words of the counter, and the flags are words of
     zeros or ones; the second is that of the last node (BLAKE2, 2.10). `words` has the operations."""
     w, add, xor, ror = kind.w, words.add, words.xor, words.ror

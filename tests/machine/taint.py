@@ -12,7 +12,7 @@ from math import gcd
 from typing import Any, Callable, Iterator
 
 import terms as T
-from machine import AFTER, KEPT, SECRET, UNKNOWN, Cells, Flags, Values, bitwise, joined, need_public
+from machine import AFTER, KEPT, SECRET, UNKNOWN, Flags, MachineState, MemoryRegion, bitwise, joined, need_public
 from terms import OPPOSITE, CannotShow, IsWrong, signed
 
 TOP = 1 << 64
@@ -29,7 +29,7 @@ SECRET_BYTE, UNKNOWN_BYTE, SECRET_BIT = (
 SECRET_WORD = [SECRET_BYTE] * 8
 
 
-def has_name(b: Any) -> Any:
+def keeps_its_name(b: Any) -> Any:
     """Whether a secret byte keeps its name: a bit, and what a register has at the entry and must have again."""
     return b == SECRET_BIT or b[0].op == "var" and b[0].taint == T.JUNK
 
@@ -38,15 +38,15 @@ def is_secret(b: T.Byte) -> bool:
     return not isinstance(b, int) and bool(b[0].taint & ~T.PUBLIC)
 
 
-def joined_byte(a: T.Byte, b: T.Byte) -> T.Byte:
+def join_bytes(a: T.Byte, b: T.Byte) -> T.Byte:
     """A byte that is one of both."""
     if a == b:
         return a
     return SECRET_BYTE if is_secret(a) or is_secret(b) else UNKNOWN_BYTE
 
 
-@T.remembering
-def unpadded(t: T.Term) -> tuple:
+@T.memoized
+def strip_zero_bytes(t: T.Term) -> tuple:
     """The word of which a word has the low bytes, and zeros above, or itself; and how many these bytes are."""
     data = T.split(t)
     while data and data[-1] == 0:
@@ -55,25 +55,25 @@ def unpadded(t: T.Term) -> tuple:
     return data[0][0] if is_one else t, len(data)
 
 
-def units(a: list, b: list) -> list:
+def places_of_numbers(a: list, b: list) -> list:
     """The places of the numbers in two words, as ranges: all of a word, unless half of it is a number of its own."""
     half, sign = len(a) // 2, [255] * (len(a) // 2)
-    is_one = lambda x: x[half:] in (half * [0], sign) or unpadded(T.word(x))[0].op not in ("cat", "const")
+    is_one = lambda x: x[half:] in (half * [0], sign) or strip_zero_bytes(T.word(x))[0].op not in ("cat", "const")
     if half == 1 or is_one(a) and is_one(b):
         return [range(len(a))]
-    low, high = units(a[:half], b[:half]), units(a[half:], b[half:])
+    low, high = places_of_numbers(a[:half], b[:half]), places_of_numbers(a[half:], b[half:])
     return low + [range(half + r.start, half + r.stop) for r in high]
 
 
-@T.remembering
-def parts(t: T.Term) -> tuple:
+@T.memoized
+def split_constant_and_sign(t: T.Term) -> tuple:
     """A term as the sum of a number and of another term or its negative."""
     constant, items = T.linear(t)
     sign = -1 if signed(t.w, next(iter(items.values()), 0)) < 0 else 1
     return signed(t.w, constant), sign, T.add(t.w, *[(sign * k, u) for u, k in items.items()])
 
 
-def aligned(low: int, high: int, start: int, step: int) -> tuple:
+def align_range_to_step(low: int, high: int, start: int, step: int) -> tuple:
     """The least range with all numbers between two that are a start plus multiples of a step; 0 has only the start."""
     if step < 2:
         return low, high, step
@@ -85,7 +85,7 @@ def merged_ranges(a: tuple, b: tuple) -> tuple:
     return min(a[0], b[0]), max(a[1], b[1]), gcd(a[2], b[2], a[0] - b[0])
 
 
-def in_both(a: tuple, b: tuple, w: int) -> tuple | None:
+def intersect_ranges(a: tuple, b: tuple, w: int) -> tuple | None:
     """A range that has the words of w bits that two ranges share, by the greater step. None if there are none. If they
     meet at both ends, it is the smaller, or of two that have most words the one that begins later."""
     size = 1 << w
@@ -98,15 +98,15 @@ def in_both(a: tuple, b: tuple, w: int) -> tuple | None:
     b = b[0] + shift, b[1] + shift, b[2]
     if a[2] == 0 or b[2] == 0:
         return a if a[2] == 0 else b
-    found = aligned(max(a[0], b[0]), min(a[1], b[1]), *max(a, b, key=lambda r: r[2])[::2])
+    found = align_range_to_step(max(a[0], b[0]), min(a[1], b[1]), *max(a, b, key=lambda r: r[2])[::2])
     return found if found[0] <= found[1] else None
 
 
-class Taint(Values):
+class TaintState(MachineState):
     """Values of which each byte is public or secret."""
 
-    PARTS = {**Values.PARTS, **dict.fromkeys(("block", "longest", "facts", "ranges", "bounds", "undecided", "rounds",
-                                              "where"), (KEPT, KEPT))}
+    PARTS = {**MachineState.PARTS, **dict.fromkeys((
+        "block", "longest", "facts", "ranges", "bounds", "undecided", "rounds", "where"), (KEPT, KEPT))}
 
     def __init__(self, regions: dict, processor: Any, alignment: tuple, block: int, longest: int = 0) -> None:
         """An index that has no bound, or a greater one than the longest array, stays within a block."""
@@ -127,36 +127,34 @@ class Taint(Values):
         return other
 
     @staticmethod
-    def left_by(data: list) -> str:
-        """What a function of the C library leaves."""
+    def leftover_kind(data: list) -> str:
         return AFTER
 
-    def lost(self, n: int, what: str) -> list:
-        """What a function leaves in a register."""
+    def leftover_bytes(self, n: int, what: str) -> list:
         return [SECRET_BYTE] * n
 
-    def anything(self, n: int) -> list:
-        """Public bytes of which nothing is known."""
+    def unknown_public_bytes(self, n: int) -> list:
         return [UNKNOWN_BYTE] * n
 
-    def cleaned(self, data: list, is_word: bool, name: str = "") -> list:
+    def bytes_to_store(self, data: list, is_word: bool, name: str = "") -> list:
         """Bytes as they are kept: what depends on a secret is only secret. An unknown word is a new variable."""
         if data.count(SECRET_BYTE) == len(data):
             return data
-        data = [b if b is SECRET_BYTE or not is_secret(b) or has_name(b) else SECRET_BYTE for b in data]
+        data = [b if b is SECRET_BYTE or not is_secret(b) or keeps_its_name(b) else SECRET_BYTE for b in data]
         if not is_word or UNKNOWN_BYTE not in data:
             return data
         if not any(map(is_secret, data)):
-            return T.split(self.new(8 * len(data), "%s=%d" % (name, len(data))))
-        return [(self.new(8, "%s=%d." % (name, k)), 0) if b == UNKNOWN_BYTE else b for k, b in enumerate(data)]
+            return T.split(self.new_public_variable(8 * len(data), "%s=%d" % (name, len(data))))
+        return [(self.new_public_variable(8, "%s=%d." % (name, k)), 0) if b == UNKNOWN_BYTE else b
+                for k, b in enumerate(data)]
 
     def is_bit(self, b: T.Byte) -> bool:
         """Whether a byte is 0 or 1."""
-        return b == SECRET_BIT or not is_secret(b) and self.unsigned(T.word([b]))[1] <= 1
+        return b == SECRET_BIT or not is_secret(b) and self.unsigned_range(T.word([b]))[1] <= 1
 
     # Ranges.
 
-    def new(self, w: int, what: str = "", limits: tuple | None = None) -> T.Term:
+    def new_public_variable(self, w: int, what: str = "", limits: tuple | None = None) -> T.Term:
         """A public variable of w bits, named by the place of the instruction, with a new value from now on."""
         is_known = T.has_var(w, self.where + what)
         x = T.var(w, self.where + what, T.PUBLIC)
@@ -169,21 +167,20 @@ class Taint(Values):
         return x
 
     def range_of(self, t: T.Term) -> tuple:
-        """The range of a term."""
         if t.op == "const":
             n = signed(t.w, t.args) if t.w == 64 else t.args
             return n, n, 0
         if t.op in ("var", "add"):
-            constant, sign, rest = parts(t)
+            constant, sign, rest = split_constant_and_sign(t)
             low, high, step = self.range_of_rest(rest)
             return (constant + low, constant + high, step) if sign > 0 else (constant - high, constant - low, step)
-        whole, size = unpadded(t)
+        whole, size = strip_zero_bytes(t)
         low, high, step = self.range_of(whole) if whole is not t else (0, (1 << 8 * size) - 1, 1)
         return (low, high, step) if 0 <= low and high < 1 << 8 * size else (0, (1 << 8 * size) - 1, 1)
 
-    def bare(self, t: T.Term) -> T.Term:
+    def unpadded_word(self, t: T.Term) -> T.Term:
         """A word, or the one of which it has the low bytes and zeros, if both are the same number."""
-        whole, size = unpadded(t)
+        whole, size = strip_zero_bytes(t)
         low, high, _ = self.range_of(whole) if whole is not t else (0, 0, 0)
         return whole if 0 <= low and high < 1 << 8 * size else t
 
@@ -193,16 +190,16 @@ class Taint(Values):
         if t.op != "add":
             return known or (self.range_of(t) if t.op != "var" else (0, (1 << t.w) - 1, 1))
         found = self.range_of_sum(t)
-        known = known or (self.ranges.get(self.widest(t)) if t.w < 64 else None)
-        return in_both(known, found, t.w) or known if known else found
+        known = known or (self.ranges.get(self.widened_sum(t)) if t.w < 64 else None)
+        return intersect_ranges(known, found, t.w) or known if known else found
 
-    def widest(self, t: T.Term) -> T.Term:
+    def widened_sum(self, t: T.Term) -> T.Term:
         """The sum of 64 bits of the words of a sum."""
-        bare = lambda u: self.bare(u) if self.bare(u).w == 64 else T.word(T.split(u) + [0] * (8 - t.w // 8))
-        return T.add(64, *[(signed(t.w, k), bare(u)) for u, k in t.args[1]])
+        bare = [(k, u, self.unpadded_word(u)) for u, k in t.args[1]]
+        return T.add(64, *[(signed(t.w, k), v if v.w == 64 else T.word(T.split(u) + [0] * (8 - t.w // 8)))
+                           for k, u, v in bare])
 
     def range_of_sum(self, t: T.Term) -> tuple:
-        """The range of a sum by those of its parts."""
         low = high = step = 0
         for u, k in t.args[1]:
             k, (a, b, s) = signed(t.w, k), self.range_of(u)
@@ -210,24 +207,24 @@ class Taint(Values):
             step = gcd(step, k * s)
         return low, high, step
 
-    def unsigned(self, t: T.Term) -> tuple:
+    def unsigned_range(self, t: T.Term) -> tuple:
         """The range of a term between 0 and 2^w."""
         (low, high, _), size = self.range_of(t), 1 << t.w
         return (low % size, high % size) if low // size == high // size else (0, size - 1)
 
     def is_negative(self, t: T.Term) -> bool | None:
-        signs = {n >> t.w - 1 for n in self.unsigned(t)}
+        signs = {n >> t.w - 1 for n in self.unsigned_range(t)}
         return bool(signs.pop()) if len(signs) == 1 else None
 
     def limit(self, t: T.Term, low: int, high: int, step: int = 1) -> bool:
         """Learns that a term is low, low + step and so on up to high. Returns whether that may be."""
-        constant, sign, rest = parts(t)
-        bare = self.bare(rest)
+        constant, sign, rest = split_constant_and_sign(t)
+        bare = self.unpadded_word(rest)
         if bare.op not in ("var", "add") or rest in self.regions:
             return True
         high -= (high - low) % step
         low, high = sorted((sign * (low - constant), sign * (high - constant)))
-        found = in_both(self.range_of_rest(rest), (low, high, step), t.w)
+        found = intersect_ranges(self.range_of_rest(rest), (low, high, step), t.w)
         if found is None:
             return False
         if bare is not rest:           # of which only numbers from 0 on are learnt
@@ -242,7 +239,7 @@ class Taint(Values):
         for x, k in t.args[1]:
             k, (a, b, _) = signed(t.w, k), self.range_of(x)
             p, q = (low - last + b, high - first + a) if k == 1 else (first - high + b, last - low + a)
-            if self.bare(x).op == "var" and abs(k) == 1 and not self.limit(x, p, q):
+            if self.unpadded_word(x).op == "var" and abs(k) == 1 and not self.limit(x, p, q):
                 return False
         return True
 
@@ -250,7 +247,7 @@ class Taint(Values):
         """Learns that two words are related. Returns whether that may be."""
         if "carry" in relation:
             return True                # nothing is learnt
-        (p, q), (r, s) = self.unsigned(a), self.unsigned(b)
+        (p, q), (r, s) = self.unsigned_range(a), self.unsigned_range(b)
         if relation in (">", ">="):
             return self.assume({">": "<", ">=": "<="}[relation], b, a)
         if relation == "==":
@@ -273,18 +270,18 @@ class Taint(Values):
             return new
         low = new[0] if new[0] >= old[0] else 0 if new[0] >= 0 else -TOP
         top = next((n for n in (self.block, self.longest) if new[1] <= n), TOP if low else (1 << w) - 1)
-        return aligned(low, top if new[1] > old[1] else new[1], new[0], new[2])
+        return align_range_to_step(low, top if new[1] > old[1] else new[1], new[0], new[2])
 
     # Flags.
 
-    def of_secrets(self, kind: str, f: Callable, a: T.Term, b: T.Term) -> list:
+    def compute_on_secrets(self, kind: str, f: Callable, a: T.Term, b: T.Term) -> list:
         self.flags = Flags(SECRET)
         return [SECRET_BYTE] * (a.w // 8)
 
-    def compare_again(self, a: list, b: list) -> None:
+    def conditional_compare(self, a: list, b: list) -> None:
         """A comparison that is made only if the one before it holds."""
         old = self.flags
-        self.computed("other", lambda x, y: None, a, b)
+        self.compute_and_set_flags("other", lambda x, y: None, a, b)
         if self.flags.kind != SECRET:
             self.flags = old if old.kind in (UNKNOWN, SECRET) else self.flags._replace(kind="ccmp")
 
@@ -292,11 +289,11 @@ class Taint(Values):
         """Learns that a comparison holds or not, and what made a byte that is now known. Returns whether it may be."""
         if not self.assume(relation if holds else OPPOSITE[relation], a, b):
             return False
-        low, high = self.unsigned(a)
+        low, high = self.unsigned_range(a)
         known: tuple = self.facts[a][low > 0] if a in self.facts and (low > 0 or high == 0) else ()
         return all(self.learn(*other) for other in known)
 
-    def supposing(self, compared: Any, holds: bool) -> Any:
+    def state_if_comparison(self, compared: Any, holds: bool) -> Any:
         """This machine with the ranges if a comparison holds or does not, or None if that may not be."""
         m: Any = copy.copy(self)
         m.ranges = dict(self.ranges)
@@ -307,7 +304,7 @@ class Taint(Values):
         if self.flags.kind == SECRET:
             return "secret"
         for holds in (True, False):
-            if self.supposing(compared, holds) is None:
+            if self.state_if_comparison(compared, holds) is None:
                 return not holds
         return None
 
@@ -318,15 +315,15 @@ class Taint(Values):
             return [SECRET_BYTE] * len(a) if truth == "secret" else a if truth else b
         if a == b:
             return a
-        one, other = (self.supposing(compared, on) for on in (True, False))
-        data = self.joined(one, other, a, b, "?", 0)
+        one, other = (self.state_if_comparison(compared, on) for on in (True, False))
+        data = self.join_words(one, other, a, b, "?", 0)
         if not any(map(is_secret, a + b + data)):
             words = T.word(data), T.word(a), T.word(b)
             for t in words[1:]:
-                self.relate(one, other, 0, *(u - t for u in words))
+                self.learn_joined_range(one, other, 0, *(u - t for u in words))
         return data
 
-    def relate(self, one: Any, other: Any, visits: int, *words: T.Term) -> None:
+    def learn_joined_range(self, one: Any, other: Any, visits: int, *words: T.Term) -> None:
         """Learns the range of a word that is another in two machines; after some visits, only if it does not grow."""
         old = one.range_of(words[1])
         if old[1] - old[0] >= 1 << words[0].w - 1:
@@ -342,7 +339,7 @@ class Taint(Values):
         truth = self.truth(compared)
         if truth is not None:
             return SECRET_BIT if truth == "secret" else int(truth)
-        x = self.new(8, "", (0, 1, 1))
+        x = self.new_public_variable(8, "", (0, 1, 1))
         if compared:
             self.facts = {**self.facts, x: tuple(((*compared, on),) for on in (False, True))}
         return x, 0
@@ -353,40 +350,40 @@ class Taint(Values):
         if {t.op for t in words} != {"const"}:
             self.undecided |= {at}
         for jumps in (True, False):
-            m = self.copy().supposing(compared, jumps)
+            m = self.copy().state_if_comparison(compared, jumps)
             if m:
                 yield m, jumps
 
-    def either(self, a: T.Term, b: T.Term) -> T.Term:
+    def bitwise_or(self, a: T.Term, b: T.Term) -> T.Term:
         """An or. If it is 0, both are."""
         for t, u in ((a, b), (b, a)):
-            if t.op == "const" and (t.args == 0 or self.is_clear(u, t.args)):
+            if t.op == "const" and (t.args == 0 or self.stack_address_lacks_bits(u, t.args)):
                 return t + u
-        bits = max(self.unsigned(a)[1], self.unsigned(b)[1]).bit_length()
-        r = self.new(a.w, "", (0, (1 << bits) - 1, 1))
+        bits = max(self.unsigned_range(a)[1], self.unsigned_range(b)[1]).bit_length()
+        r = self.new_public_variable(a.w, "", (0, (1 << bits) - 1, 1))
         if a in self.facts and b in self.facts:
             self.facts = {**self.facts, r: (self.facts[a][0] + self.facts[b][0], ())}
         return r
 
-    def masked(self, a: T.Term, b: T.Term) -> Any:
+    def bitwise_and(self, a: T.Term, b: T.Term) -> Any:
         """An and. One that clears the lowest bits only subtracts them. If it is not 0, neither of both is 0."""
         if a.op == b.op == "const":
             return T.const(a.w, a.args & b.args)
         for t, u in ((a, b), (b, a)):
-            ones = (1 << self.unsigned(t)[1].bit_length()) - 1
+            ones = (1 << self.unsigned_range(t)[1].bit_length()) - 1
             if u.op == "const" and u.args & ones == ones:
                 return t
         if a in self.facts and b in self.facts:
-            r = self.new(a.w, "", (0, min(self.unsigned(a)[1], self.unsigned(b)[1]), 1))
+            r = self.new_public_variable(a.w, "", (0, min(self.unsigned_range(a)[1], self.unsigned_range(b)[1]), 1))
             self.facts = {**self.facts, r: ((), self.facts[a][1] + self.facts[b][1])}
             return r
         n = min((t.args for t in (a, b) if t.op == "const"), default=(1 << a.w) - 1)
         low = (1 << a.w) - n
         if set(T.linear(a)[1]) == {self.stack}:
-            return self.aligned_stack(a, low)
+            return self.round_down_stack_address(a, low)
         if b.op == "const" and low <= 4096 and low & low - 1 == 0:
-            r = a - self.new(a.w, "low", (0, low - 1, 1))
-            first, last = self.unsigned(a)
+            r = a - self.new_public_variable(a.w, "low", (0, low - 1, 1))
+            first, last = self.unsigned_range(a)
             self.limit(r, first & -low, last & -low, low)
             return r
         return 0, n, n & -n or 1
@@ -394,32 +391,31 @@ class Taint(Values):
     def xor_values(self, *_: Any) -> None:
         """An exclusive or, and a field of bits: nothing is known of them."""
 
-    bitfield: Any = xor_values
+    low_bits_shifted_left: Any = xor_values
 
     def shifted_right(self, a: T.Term, k: int) -> Any:
         """The range of a word that is shifted to the right."""
-        return tuple(n >> k for n in self.unsigned(a)) + (1,)
+        return tuple(n >> k for n in self.unsigned_range(a)) + (1,)
 
     def combined(self, name: str, x: list, y: list) -> list:
         """The bytes of a bitwise operation on vectors."""
-        functions: dict = {"xor": T.xor, "or": T.either, "and": T.both}
-        return self.vector_of(lambda a, b: bitwise(functions[name], a, b), x, y)
+        functions: dict = {"xor": T.xor, "or": T.bitwise_or, "and": T.bitwise_and}
+        return self.vector_result_or_unknown(lambda a, b: bitwise(functions[name], a, b), x, y)
 
-    def vector_of(self, f: Callable, *data: list) -> list:
+    def vector_result_or_unknown(self, f: Callable, *data: list) -> list:
         """The bytes of an operation on vectors: those of numbers, or of which each may depend on all."""
         if all(isinstance(b, int) for part in data for b in part):
             try:
                 return f(*data)
             except CannotShow:
                 pass
-        return [self.mixed(joined(data))] * len(data[0])
+        return [self.byte_depending_on(joined(data))] * len(data[0])
 
-    def kept_by(self, data: list, mask: list) -> list:
+    def apply_mask_to_secrets(self, data: list, mask: list) -> list:
         """Nothing is left of the secret bytes that a mask clears."""
         return [0 if bits == 0 and is_secret(b) else b for b, bits in zip(data, mask)]
 
-    def mixed(self, data: list) -> T.Byte:
-        """A byte that may depend on all of these."""
+    def byte_depending_on(self, data: list) -> T.Byte:
         return SECRET_BYTE if SECRET_BYTE in data or any(map(is_secret, data)) else UNKNOWN_BYTE
 
     # Memory.
@@ -427,8 +423,8 @@ class Taint(Values):
     def places(self, address: T.Term, length: T.Term) -> tuple:
         """The base, the offsets of bytes that an access may reach, and the region. Without a bound, one block."""
         base, _, region = self.region_of(address)
-        (low, _, step), (_, end, _) = (self.offset(t, base) for t in (address, address + length))
-        if base is self.stack and low < self.lowest():
+        (low, _, step), (_, end, _) = (self.offset_range(t, base) for t in (address, address + length))
+        if base is self.stack and low < self.lowest_stack_offset():
             raise IsWrong("%r is below the stack" % address)
         if region.uniform:             # one stands for all
             return base, range(1), region
@@ -446,7 +442,7 @@ class Taint(Values):
         if region.table:
             return region.table(self, self.range_of(address - base), size)
         data = [self.byte(base, k) for k in places]
-        return data if len(data) == size else [self.mixed(data)] * size
+        return data if len(data) == size else [self.byte_depending_on(data)] * size
 
     def store(self, address: T.Term, data: list, aligned: bool = False) -> None:
         self.write(address, T.const(64, len(data)), data)
@@ -457,18 +453,18 @@ class Taint(Values):
         self.check_writable(region, to)
         if region.uniform:
             return
-        data = self.cleaned(data, False)
+        data = self.bytes_to_store(data, False)
         if length is not T.const(64, len(places)):
-            new, old = self.mixed(data), [self.byte(base, k) for k in places]
+            new, old = self.byte_depending_on(data), [self.byte(base, k) for k in places]
             lost = [b for b in old if not (isinstance(b, int) or is_secret(b) or b == UNKNOWN_BYTE)]
             if base is self.stack and is_secret(new) and lost:
                 raise CannotShow("no bound is known for a place: a secret may overwrite %r on the stack" % lost[0][0])
-            data = [joined_byte(b, new) for b in old]
+            data = [join_bytes(b, new) for b in old]
         self.memory.update(zip(zip(itertools.repeat(base), places), data))
 
     def copy_memory(self, to: T.Term, source: T.Term, length: T.Term, is_apart: bool) -> None:
         """memcpy and memmove."""
-        length = self.length(length)
+        length = self.public_length(length)
         if length.op == "const":
             self.store(to, self.load(source, length.args))
         else:
@@ -477,13 +473,13 @@ class Taint(Values):
 
     def fill_memory(self, to: T.Term, b: T.Byte, length: T.Term) -> None:
         """memset."""
-        length = self.length(length)
+        length = self.public_length(length)
         self.write(to, length, [b] * (length.args if length.op == "const" else 1))
 
-    def length(self, t: T.Term) -> T.Term:
+    def public_length(self, t: T.Term) -> T.Term:
         """A length, which must be public, as a number if it is known."""
         need_public(t, "a length")
-        low, high = self.unsigned(t)
+        low, high = self.unsigned_range(t)
         return T.const(64, low) if low == high else t
 
     # Paths that meet.
@@ -501,24 +497,25 @@ class Taint(Values):
         for name in self.processor.FILES:
             for at, (a, b) in enumerate(zip(getattr(old, name), getattr(other, name))):
                 if a != b:
-                    data = self.joined(old, other, a, b, "%s%d" % (name, at), visits)
+                    data = self.join_words(old, other, a, b, "%s%d" % (name, at), visits)
                     getattr(self, name)[at] = data
                     if is_loop and len(data) == 8 and not any(map(is_secret, data + a + b)):
                         words.append([T.word(d) for d in (data, a, b)])
         changed = {(base, k & ~7) for (base, k), _ in self.memory.items() ^ other.memory.items()}
         for base, k in sorted(changed, key=lambda at: (at[0].serial, at[1])):
             a, b = ([m.byte(base, k + j) for j in range(8)] for m in (old, other))
-            for r in units(a, b) if a != SECRET_WORD else ():
+            for r in places_of_numbers(a, b) if a != SECRET_WORD else ():
                 at = k + r.start
-                data = self.joined(old, other, a[r.start:r.stop], b[r.start:r.stop], "%s%d" % (base.args, at), visits)
+                pair = a[r.start:r.stop], b[r.start:r.stop]
+                data = self.join_words(old, other, *pair, "%s%d" % (base.args, at), visits)
                 self.memory.update({(base, at + j): byte for j, byte in enumerate(data)})
-        self.relate_all(old, other, visits, words)
+        self.learn_joined_differences(old, other, visits, words)
         if self.flags != other.flags:
             self.flags = Flags(UNKNOWN)
         return any(getattr(self, name) != getattr(old, name)
                    for name in (*self.processor.FILES, "memory", "ranges", "facts", "flags"))
 
-    def relate_all(self, old: Any, other: Any, visits: int, words: list) -> None:
+    def learn_joined_differences(self, old: Any, other: Any, visits: int, words: list) -> None:
         """Learns how words, given after two paths met and on each, differ from each other and from bounds."""
         words = [[T.add(64, (1, t), *[(-1, base) for base in self.bases_of(three[0])]) for t in three]
                  for three in words]
@@ -527,9 +524,9 @@ class Taint(Values):
         for k, three in enumerate(words):
             for sign, others in ((-1, bounds), (1, words[:k]), (-1, words[:k])):
                 for pair in others:
-                    self.relate(old, other, visits, *(u + sign * v for u, v in zip(three, pair)))
+                    self.learn_joined_range(old, other, visits, *(u + sign * v for u, v in zip(three, pair)))
 
-    def joined(self, old: Any, other: Any, a: list, b: list, name: str, visits: int) -> list:
+    def join_words(self, old: Any, other: Any, a: list, b: list, name: str, visits: int) -> list:
         """The bytes of a word or a vector that is one of both."""
         secrets = [SECRET_BYTE] * len(a)
         if secrets in (a, b):
@@ -539,16 +536,16 @@ class Taint(Values):
             for k, (x, y) in enumerate(zip(a, b)):
                 if x != y and len(a) <= 8 and old.is_bit(x) and other.is_bit(y):
                     x = y = SECRET_BIT if is_secret(x) or is_secret(y) else (
-                        self.new(8, "%s.%d" % (name, k), (0, 1, 1)), 0)
-                data.append(joined_byte(x, y))
-            return self.cleaned(data, len(a) <= 8 and not name.startswith("sp"), name)
+                        self.new_public_variable(8, "%s.%d" % (name, k), (0, 1, 1)), 0)
+                data.append(join_bytes(x, y))
+            return self.bytes_to_store(data, len(a) <= 8 and not name.startswith("sp"), name)
         t, u = (T.word(data + [0] * (8 - len(data))) for data in (a, b))
-        base, w = self.common(t, u), 8 * len(a)
-        old_range, new_range = (m.offset(v, base) for m, v in ((old, t), (other, u)))
-        x = self.new(w, name, self.widened(old_range, merged_ranges(old_range, new_range), w, visits))
+        base, w = self.common_base(t, u), 8 * len(a)
+        old_range, new_range = (m.offset_range(v, base) for m, v in ((old, t), (other, u)))
+        x = self.new_public_variable(w, name, self.widened(old_range, merged_ranges(old_range, new_range), w, visits))
         return T.split(base + x if w == 64 else x)
 
-    def common(self, t: T.Term, u: T.Term) -> T.Term:
+    def common_base(self, t: T.Term, u: T.Term) -> T.Term:
         """The base that two words have in common, or 0. Bases of memory that is only read become a base of both."""
         found = [self.bases_of(s) for s in (t, u)]
         is_one = all(len(bases) == 1 for bases in found)
@@ -557,12 +554,12 @@ class Taint(Values):
         if not is_one or any(self.regions[v].writable for v, in found):
             return T.const(t.w, 0)
         names = sorted(set("|".join(str(v.args) for v, in found).split("|")))
-        b = joined_byte(*[r.initial(0) if r.uniform else UNKNOWN_BYTE for r in (self.regions[v] for v, in found)])
+        b = join_bytes(*[r.initial(0) if r.uniform else UNKNOWN_BYTE for r in (self.regions[v] for v, in found)])
         base = T.var(t.w, "|".join(names), T.PUBLIC)
-        self.regions[base] = Cells(0, 0, lambda k: b, False, uniform=True)
+        self.regions[base] = MemoryRegion(0, 0, lambda k: b, False, uniform=True)
         return base
 
-    def offset(self, t: T.Term, base: T.Term) -> tuple:
+    def offset_range(self, t: T.Term, base: T.Term) -> tuple:
         """The range of a word without its base, if that is known."""
         if base.op == "const":
             return self.range_of(t)

@@ -27,17 +27,17 @@ OPPOSITE = {"==": "!=", "!=": "==", "<": ">=", ">=": "<", ">": "<=", "<=": ">",
 LIMIT, WIDEST = 200000, 128            # of all terms, and of the parts of one
 
 
-class Refused(Exception):
+class ClaimNotShown(Exception):
     """The claim is not shown. The subclass says why."""
 
     kind = "cannot show"
 
 
-class CannotShow(Refused):
+class CannotShow(ClaimNotShown):
     """The tool has no rule for this case: the code may be right, and the tool has to learn more."""
 
 
-class IsWrong(Refused):
+class IsWrong(ClaimNotShown):
     """The code breaks the claim. The message has the inputs, if it depends on them."""
 
     kind = "is wrong"
@@ -57,8 +57,8 @@ class Term:
         return show(self, 3)
 
     # Sums of words and numbers.
-    __add__: Any = lambda a, b: add(a.w, (1, a), (1, of(a.w, b)))
-    __sub__: Any = lambda a, b: add(a.w, (1, a), (-1, of(a.w, b)))
+    __add__: Any = lambda a, b: add(a.w, (1, a), (1, as_term(a.w, b)))
+    __sub__: Any = lambda a, b: add(a.w, (1, a), (-1, as_term(a.w, b)))
     __radd__, __rsub__ = __add__, lambda a, n: const(a.w, n) - a
     __rmul__: Any = lambda a, k: add(a.w, (k, a))
     __neg__: Any = lambda a: add(a.w, (-1, a))
@@ -90,7 +90,7 @@ def reset() -> None:
         f.cache_clear()
 
 
-def remembering(f: Callable) -> Callable:
+def memoized(f: Callable) -> Callable:
     """A function that computes its result once for the same arguments, until all terms are forgotten."""
     _memos.append(functools.lru_cache(maxsize=None)(f))
     return _memos[-1]
@@ -119,18 +119,16 @@ def const(w: int, n: int) -> Term:
     return _term("const", w, n & ((1 << w) - 1), 0)
 
 
-def of(w: int, n: Term | int) -> Term:
+def as_term(w: int, n: Term | int) -> Term:
     """A word, or that of a number."""
     return const(w, n) if isinstance(n, int) else n
 
 
 def var(w: int, name: Any, taint: int) -> Term:
-    """The variable of this name."""
     return _term("var", w, name, taint)
 
 
 def has_var(w: int, name: Any) -> bool:
-    """Whether there is a variable of this name."""
     return ("var", w, name) in _table
 
 
@@ -141,7 +139,7 @@ def ite(w: int, condition: Any, on: int, off: int) -> Term:
     return _term("ite", w, (condition, on, off), PUBLIC)
 
 
-def leaves(f: Callable, w: int, *terms: Any) -> Term | None:
+def fold_constants(f: Callable, w: int, *terms: Any) -> Term | None:
     """The result of f on numbers, where each term is a number or depends on one condition."""
     condition = None
     for t in terms:
@@ -168,13 +166,12 @@ def linear(t: Term) -> tuple:
 
 
 def need_width(w: int, *terms: Term) -> None:
-    """Refuses terms of another width."""
     for t in terms:
         if t.w != w:
             raise CannotShow("%r has %d bits instead of %d" % (t, t.w, w))
 
 
-@remembering
+@memoized
 def add(w: int, *given: tuple) -> Term:
     """The sum of pairs of a coefficient and a term."""
     constant, has_flag = 0, False
@@ -192,7 +189,7 @@ def add(w: int, *given: tuple) -> Term:
             sums[t] = sums.get(t, 0) + factor
             has_flag |= t.op == "ite"
     if has_flag:
-        simple = leaves(lambda *a: sum(k * n for (k, _), n in zip(given, a)), w, *[t for _, t in given])
+        simple = fold_constants(lambda *a: sum(k * n for (k, _), n in zip(given, a)), w, *[t for _, t in given])
         if simple:
             return simple
     mask = (1 << w) - 1
@@ -207,11 +204,10 @@ def add(w: int, *given: tuple) -> Term:
 
 
 def taint_of(taints: Iterable) -> int:
-    """The taints of all."""
     return functools.reduce(operator.or_, taints, 0)
 
 
-def _members(terms: tuple) -> tuple:
+def _xor_members(terms: tuple) -> tuple:
     """The constant, the flags' masks and the other members of an exclusive or."""
     constant = 0
     chosen: dict = {}
@@ -231,11 +227,10 @@ def _members(terms: tuple) -> tuple:
     return constant, {n: m for n, m in chosen.items() if m}, members
 
 
-@remembering
+@memoized
 def xor(w: int, *terms: Any) -> Term:
-    """The exclusive or of terms."""
     need_width(w, *terms)
-    constant, marks, members = _members(terms)
+    constant, marks, members = _xor_members(terms)
     if not members and not marks:
         return const(w, constant)
     if not members and len(marks) == 1:
@@ -252,7 +247,7 @@ def _ror_number(w: int, n: int, k: int) -> int:
     return (n >> k | n << (w - k)) & ((1 << w) - 1)
 
 
-@remembering
+@memoized
 def ror(w: int, t: Any, k: int) -> Term:
     """A rotation to the right by k bits."""
     need_width(w, t)
@@ -265,7 +260,7 @@ def ror(w: int, t: Any, k: int) -> Term:
         return ror(w, t.args[0], t.args[1] + k)
     if t.op == "cat" and k % 8 == 0:
         return word(t.args[k // 8:] + t.args[:k // 8])
-    return leaves(lambda a: _ror_number(w, a, k), w, t) or _term("ror", w, (t, k), t.taint)
+    return fold_constants(lambda a: _ror_number(w, a, k), w, t) or _term("ror", w, (t, k), t.taint)
 
 
 def shl(w: int, t: Term, k: int) -> Term:
@@ -279,10 +274,10 @@ def shr(w: int, t: Term, k: int) -> Term:
     """A logical shift to the right by k bits, 0 < k < w."""
     if k % 8 == 0:
         return word(split(t)[k // 8:] + [0] * (k // 8))
-    return leaves(lambda a: a >> k, w, t) or _term("shr", w, (t, k), t.taint)
+    return fold_constants(lambda a: a >> k, w, t) or _term("shr", w, (t, k), t.taint)
 
 
-def rotation(w: int, a: Term, b: Term) -> Term | None:
+def rotation_of_shifted(w: int, a: Term, b: Term) -> Term | None:
     """The rotation that two shifted words make, whose bits do not overlap, or None."""
     for low, high in ((a, b), (b, a)):
         if low.op == "shr" and high.op == "add":
@@ -292,23 +287,22 @@ def rotation(w: int, a: Term, b: Term) -> Term | None:
     return None
 
 
-def disjoint(a: Term, b: Term) -> Term | None:
+def combine_disjoint_bytes(a: Term, b: Term) -> Term | None:
     """The bytes of two words of which one is zero in each byte, or None."""
     pairs = list(zip(split(a), split(b)))
     return word(y if x == 0 else x for x, y in pairs) if all(0 in pair for pair in pairs) else None
 
 
-def either(w: int, a: Term, b: Term) -> Term:
-    """The bitwise or of two terms."""
-    return leaves(operator.or_, w, a, b) or rotation(w, a, b) or word(map(or_byte, split(a), split(b)))
+def bitwise_or(w: int, a: Term, b: Term) -> Term:
+    return fold_constants(operator.or_, w, a, b) or rotation_of_shifted(w, a, b) or word(
+        map(or_byte, split(a), split(b)))
 
 
-def both(w: int, a: Term, b: Term) -> Term:
-    """The bitwise and of two terms."""
-    return leaves(operator.and_, w, a, b) or word(map(and_byte, split(a), split(b)))
+def bitwise_and(w: int, a: Term, b: Term) -> Term:
+    return fold_constants(operator.and_, w, a, b) or word(map(and_byte, split(a), split(b)))
 
 
-def _of_bytes(f: Callable, neutral: int, x: Byte, y: Byte) -> Byte:
+def _combine_bytes(f: Callable, neutral: int, x: Byte, y: Byte) -> Byte:
     """An or or an and of two bytes, of which one number keeps the other byte, and its complement is the result."""
     if y in (x, neutral):
         return x
@@ -316,14 +310,14 @@ def _of_bytes(f: Callable, neutral: int, x: Byte, y: Byte) -> Byte:
         return y
     if 255 - neutral in (x, y):
         return 255 - neutral
-    found = leaves(f, 8, word([x]), word([y]))
+    found = fold_constants(f, 8, word([x]), word([y]))
     if not found:
         raise CannotShow("there is no rule for the %s of %r and %r" % (f.__name__.strip("_"), x, y))
     return split(found)[0]
 
 
-or_byte = functools.partial(_of_bytes, operator.or_, 0)
-and_byte = functools.partial(_of_bytes, operator.and_, 255)
+or_byte = functools.partial(_combine_bytes, operator.or_, 0)
+and_byte = functools.partial(_combine_bytes, operator.and_, 255)
 
 
 def split(t: Any) -> list:
@@ -357,7 +351,7 @@ def word(bs: Any) -> Term:
     return first[0] if isinstance(first, tuple) and first[0].bytes == bs else _word(tuple(bs))
 
 
-@remembering
+@memoized
 def _word(bs: tuple) -> Term:
     n = len(bs)
     first = bs[0]
@@ -375,7 +369,7 @@ def _word(bs: tuple) -> Term:
     return ite(8 * n, names.pop(), number(1), number(2)) if names else const(8 * n, number(0))
 
 
-@remembering
+@memoized
 def slice_of(t: Term, i: int, n: int) -> Term:
     """Bytes i to i + n - 1 of a term."""
     if t.w == 8 * n:
@@ -388,13 +382,13 @@ def slice_of(t: Term, i: int, n: int) -> Term:
     return _term("slice", 8 * n, (t, i), t.taint)
 
 
-def test(op: str, w: int, t: Term) -> Term:
+def zero_test(op: str, w: int, t: Term) -> Term:
     """The truth of "zero" or "nonzero" of a term, as 0 or 1 in w bits."""
     if t.op == "nonzero":
-        return test(op, w, t.args[0])
+        return zero_test(op, w, t.args[0])
     if t.op == "zero":
-        return test("nonzero" if op == "zero" else "zero", w, t.args[0])
-    return leaves(lambda n: int((n == 0) == (op == "zero")), w, t) or _term(op, w, (t,), t.taint)
+        return zero_test("nonzero" if op == "zero" else "zero", w, t.args[0])
+    return fold_constants(lambda n: int((n == 0) == (op == "zero")), w, t) or _term(op, w, (t,), t.taint)
 
 
 # The number that a term has by the definition of its operator, from its width, its arguments, and a function that has
@@ -419,8 +413,8 @@ MADE: dict = {
     "shr": lambda w, a, of: shr(w, of(a[0]), a[1]),
     "slice": lambda w, a, of: word(split(of(a[0]))[a[1]:a[1] + w // 8]),
     "cat": lambda w, a, of: word(b if isinstance(b, int) else split(of(b[0]))[b[1]] for b in a),
-    "zero": lambda w, a, of: test("zero", w, of(a[0])),
-    "nonzero": lambda w, a, of: test("nonzero", w, of(a[0])),
+    "zero": lambda w, a, of: zero_test("zero", w, of(a[0])),
+    "nonzero": lambda w, a, of: zero_test("nonzero", w, of(a[0])),
 }
 
 
@@ -454,7 +448,7 @@ def parts(t: Term) -> list:
     return [u for u in found if isinstance(u, Term)]
 
 
-class Numbers(dict):
+class RandomNumbers(dict):
     """Random numbers for the variables, the same for the same seed. Seed 0 has zeros only."""
 
     def __init__(self, seed: int, fixed: tuple = ()) -> None:
@@ -467,17 +461,17 @@ class Numbers(dict):
         return number
 
 
-def depends(t: Term, taint: int) -> Any:
+def inputs_that_change(t: Term, taint: int) -> Any:
     """Inputs for which a term changes with a variable of this taint only, as text, or None."""
     changed = [u.args if u.op == "var" else u.args[0] for u in variables(t) if u.taint & taint]
     for seed in range(1, 9):
-        other = Numbers(seed, tuple((name, Numbers(-seed)[name]) for name in changed))
-        if value(t, Numbers(seed), {}) != value(t, other, {}):
+        other = RandomNumbers(seed, tuple((name, RandomNumbers(-seed)[name]) for name in changed))
+        if value(t, RandomNumbers(seed), {}) != value(t, other, {}):
             return "it changes with %s" % ", ".join(sorted(map(str, changed))[:3])
     return None
 
 
-@remembering
+@memoized
 def variables(t: Term) -> frozenset:
     """The variables of a term, and its flags."""
     return frozenset([t] if t.op in ("var", "ite") else ()).union(*map(variables, parts(t)))

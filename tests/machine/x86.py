@@ -7,8 +7,8 @@ from typing import Any, Callable
 
 import machine
 import terms as T
-from machine import (LEFT, ON_VECTORS, ON_WORDS, SECRET, UNKNOWN, Flags, Operand, Processor, chunks, image, joined,
-                     junk, need_public, no_rule, number, of_numbers, picked)
+from machine import (LEFT, ON_VECTORS, ON_WORDS, SECRET, UNKNOWN, Flags, Operand, Processor, apply_to_numbers, chunks,
+                     joined, load_address, need_public, no_rule, number, picked, undefined_bytes)
 from terms import CannotShow, IsWrong
 
 RAX, RCX, RDX, RBX, RSP, RBP, RSI, RDI = range(8)
@@ -43,13 +43,13 @@ def operand(text: str) -> Operand:
         o = REGISTER[m[1]]
         return Operand("vector", index=o.index, size=o.size, mask=int(m[2]), zeroes=bool(m[3]))
     m = re.fullmatch(r"(?:([A-Z]+) (PTR|BCST) )?\[(.*)\]", text)
-    parts = of_address(m[3]) if m else None
+    parts = parse_address(m[3]) if m else None
     if not m or not parts:
         raise CannotShow("the operand %s is not modelled: add it to tests/machine/x86.py" % text)
     return Operand("memory", size=SIZES[m[1]] if m[1] else None, parts=parts, is_broadcast=m[2] == "BCST")
 
 
-def of_address(text: str) -> list | None:
+def parse_address(text: str) -> list | None:
     """The parts of an address, or None."""
     parts: list = []
     for sign, piece in re.findall(r"([+-]?)([^+-]+)", text):
@@ -68,7 +68,7 @@ class Instruction(machine.Instruction):
 
     JUMP, CALL, TRAP = "jmp", "call", "ud2"
 
-    def read(self) -> None:
+    def parse_text(self) -> None:
         code, _, comment = self.text.partition("#")
         self.name, _, rest = code.strip().partition(" ")
         if NOP.fullmatch(code.strip()):
@@ -102,12 +102,12 @@ MOVES = {**dict.fromkeys("movdqa movaps movapd movdqa32 movdqa64".split(), True)
     "movdqu movups movupd movdqu8 movdqu16 movdqu32 movdqu64".split(), False)}
 
 
-def words(n: int, number: int) -> list:
+def places_in_immediate(n: int, number: int) -> list:
     """The places that a number has, of which there are n."""
     return [number >> n // 2 * k & n - 1 for k in range(n)]
 
 
-def insertps(n: int, number: int) -> list:
+def places_of_insertps(n: int, number: int) -> list:
     return [2 * n if number >> k & 1 else n + (number >> 6) if k == number >> 4 & 3 else k for k in range(n)]
 
 
@@ -118,8 +118,8 @@ def insertps(n: int, number: int) -> list:
 MOVED: dict = {
     **dict.fromkeys(MOVES, ("a", WIDTH, 4, range)),
     "movd": ("a", WIDTH, 4, lambda n: [0, n, n, n]), "movq": ("a", WIDTH, 8, lambda n: [0, n]),
-    "pshufd": ("a", 16, 4, words), "permq": ("a", 32, 8, words),
-    **{name: ("ab", lane, n, lambda n, imm: [p + n * (2 * k >= n) for k, p in enumerate(words(n, imm))])
+    "pshufd": ("a", 16, 4, places_in_immediate), "permq": ("a", 32, 8, places_in_immediate),
+    **{name: ("ab", lane, n, lambda n, imm: [p + n * (2 * k >= n) for k, p in enumerate(places_in_immediate(n, imm))])
        for name, lane, n in (("shufps", 16, 4), ("shufi64x2", WIDTH, 16))},
     "palignr": ("ba", 16, 1, lambda n, imm: range(imm, imm + n)),
     "alignq": ("ba", WIDTH, 8, lambda n, imm: range(imm % n, imm % n + n)),
@@ -129,7 +129,7 @@ MOVED: dict = {
        for start, half in enumerate("lh") for c, size in (("dq", 4), ("qdq", 8))},
     **{"pblend" + c: ("ab", lane, n, lambda n, imm: [k + n * (imm >> k & 1) for k in range(n)])
        for c, lane, n in (("w", 16, 2), ("d", 32, 4))},
-    "insertps": ("ab", 16, 4, insertps),
+    "insertps": ("ab", 16, 4, places_of_insertps),
     "perm2i128": ("ab", 32, 16, lambda n, imm: [imm >> 4 * k & 11 for k in range(n)]),
     "pshufb": ("ai", 16, 1, lambda n, places: [p if p > 127 else p % n for p in places]),
     "permd": ("ia", WIDTH, 4, lambda n, places: [p % n for p in places]),
@@ -144,7 +144,7 @@ MOVED: dict = {
 }
 
 
-def moved(row: tuple, sources: tuple, numbers: list) -> list:
+def move_parts(row: tuple, sources: tuple, numbers: list) -> list:
     """The bytes that an instruction of MOVED makes of its operands and of its number."""
     names, lane, n, places = row
 
@@ -157,25 +157,25 @@ def moved(row: tuple, sources: tuple, numbers: list) -> list:
 
 def bit_of(b: T.Byte, k: int) -> T.Byte:
     """Bit k of a byte, as a byte of a mask."""
-    t = T.leaves(lambda n: n >> k & 1, 8, T.word([b]))
-    return (junk("mask", 1) if t is None else T.split(t))[0]
+    t = T.fold_constants(lambda n: n >> k & 1, 8, T.word([b]))
+    return (undefined_bytes("mask", 1) if t is None else T.split(t))[0]
 
 
-def chosen(bit: T.Byte, on: list, off: list) -> list:
+def select_by_mask_bit(bit: T.Byte, on: list, off: list) -> list:
     """One of two lists of bytes by a byte of a mask."""
     if bit in (0, 1):
         return on if bit else off
-    return T.split(of_numbers(8 * len(on), lambda c, a, b: a if c else b, *map(T.word, ([bit], on, off))))
+    return T.split(apply_to_numbers(8 * len(on), lambda c, a, b: a if c else b, *map(T.word, ([bit], on, off))))
 
 
 def blend_by_sign(n: int, a: list, b: list, signs: list) -> list:
     """The words of b where those of others are negative, and elsewhere those of a."""
-    return joined(chosen(bit_of(z[-1], 7), y, x) for x, y, z in zip(*(chunks(s, n) for s in (a, b, signs))))
+    return joined(select_by_mask_bit(bit_of(z[-1], 7), y, x) for x, y, z in zip(*(chunks(s, n) for s in (a, b, signs))))
 
 
-def with_sign(n: int, a: list) -> list:
+def sign_extend_lanes(n: int, a: list) -> list:
     """Words of n bytes as ones of twice as many."""
-    sign = lambda b: T.split(of_numbers(8, lambda k: 255 * (k >> 7), T.word([b])))
+    sign = lambda b: T.split(apply_to_numbers(8, lambda k: 255 * (k >> 7), T.word([b])))
     return joined(x + n * sign(x[-1]) for x in chunks(a, n))
 
 
@@ -186,7 +186,8 @@ COMPUTED: dict = {
         ("padd", 2, "add", "dq"), ("psub", 2, "sub", "q"), ("psrl", 1, "shr", "wdq"), ("psll", 1, "shl", "dq"),
         ("prol", 1, "rol", "dq")) for c in ends},
     "blendvps": (3, 4, blend_by_sign), "blendvpd": (3, 8, blend_by_sign), "pblendvb": (3, 1, blend_by_sign),
-    "pmovsxdq": (1, 4, with_sign), "pcmpgtq": (2, 8, no_rule), "pcmpeqb": (2, 1, no_rule), "pmovmskb": (1, 1, no_rule),
+    "pmovsxdq": (1, 4, sign_extend_lanes), "pcmpgtq": (2, 8, no_rule), "pcmpeqb": (2, 1, no_rule),
+    "pmovmskb": (1, 1, no_rule),
     "pternlogd": (3, 4, no_rule), "pternlogq": (3, 8, no_rule),
 }
 # Other names for the same.
@@ -223,11 +224,11 @@ class X86(Processor):
 
     # The calling convention.
 
-    def set_link(self, data: list) -> None:
+    def set_return_address(self, data: list) -> None:
         self.move_stack(-8)
         self.values.store(self.values.stack_pointer(), data)
 
-    def leave(self, link: T.Term) -> None:
+    def end_call(self, link: T.Term) -> None:
         """A return takes the address from the stack."""
         if self.values.load(self.values.stack_pointer(), 8) != T.split(link):
             raise IsWrong("a call overwrites its return address")
@@ -235,26 +236,26 @@ class X86(Processor):
 
     def move_stack(self, n: int) -> None:
         self.values.general[RSP] = T.split(self.values.stack_pointer() + n)
-        self.values.forget_below()
+        self.values.forget_stack_below_pointer()
 
     def clobbered_vector(self, j: int, old: list, what: str) -> list:
         """Zeros above the bytes that belong to the call, and what is as before, stay for all calls that follow."""
         start = 0 if j in UPPER else 16
-        is_left = what == LEFT and self.values.is_left(j, start)
-        upper = self.values.lost(WIDTH - start, self.values.left_by(old[start:]) if is_left else what)
+        is_left = what == LEFT and self.values.vector_may_remain(j, start)
+        upper = self.values.leftover_bytes(WIDTH - start, self.values.leftover_kind(old[start:]) if is_left else what)
         kept = [x if x == 0 else y for x, y in zip(old[start:], upper)] if what == LEFT else upper
-        return self.values.lost(start, what) + kept
+        return self.values.leftover_bytes(start, what) + kept
 
-    def need_vectors(self) -> None:
+    def check_vectors_at_return(self) -> None:
         for j in range(REGISTERS):
             start = 0 if j in UPPER else 16
-            if not self.values.is_left(j, start):
+            if not self.values.vector_may_remain(j, start):
                 raise IsWrong("the vector register %d from byte %d on is neither zero nor as before" % (j, start))
 
     # Operands.
 
     def address(self, o: Operand) -> T.Term:
-        return T.add(64, *[(k, image() if part is FILE else T.word(self.read(part, 8))) for k, part in o.parts])
+        return T.add(64, *[(k, load_address() if part is FILE else T.word(self.read(part, 8))) for k, part in o.parts])
 
     def read(self, o: Operand, size: int | None = None, aligned: bool = False) -> list:
         if o.kind != "memory":
@@ -263,7 +264,7 @@ class X86(Processor):
         return self.values.load(self.address(o), o.size or size, aligned) * times
 
     def write(self, o: Operand, data: list, vex: bool = False, aligned: bool = False) -> None:
-        data = self.values.cleaned(list(data), o.kind == "general")
+        data = self.values.bytes_to_store(list(data), o.kind == "general")
         if o.kind == "memory":
             self.values.store(self.address(o), data, aligned)
         elif o.kind not in ("general", "vector") or o.kind == "general" and len(data) != o.size:
@@ -276,18 +277,18 @@ class X86(Processor):
 
     # Conditions.
 
-    def compared(self, condition: str) -> tuple | None:
+    def comparison_of_condition(self, condition: str) -> tuple | None:
         kind = self.values.flags.kind
         if kind == "no carry" and condition in OF_CARRY:
             raise IsWrong("a carry that inc or dec keeps depends on secret or unknown data")
         if kind == "product" and condition not in OF_OVERFLOW:
             raise CannotShow("a product does not define this flag")
-        return super().compared(condition)
+        return super().comparison_of_condition(condition)
 
-    def condition(self, i: Instruction) -> tuple | None:
+    def comparison_of_jump(self, i: Instruction) -> tuple | None:
         if i.name[1:] not in CONDITIONS:
-            raise i.unknown()
-        return self.branched(i.name[1:])
+            raise i.not_modelled_error()
+        return self.public_comparison(i.name[1:])
 
     def step(self, i: Instruction) -> None:
         if i.action is None:
@@ -296,7 +297,6 @@ class X86(Processor):
 
     @classmethod
     def action(cls, i: Instruction) -> Callable:
-        """What executes an instruction."""
         if i.name in ACTIONS:
             found = ACTIONS[i.name]
             return getattr(cls, found) if isinstance(found, str) else found
@@ -304,67 +304,67 @@ class X86(Processor):
             return cls.mask_step
         if i.operands and i.operands[0].mask is not None:
             return cls.masked_move
-        return cls.vector_step(i)
+        return cls.vector_executor(i)
 
     # Words.
 
     def push(self, i: Instruction, source: Operand) -> None:
         data = self.read(source)
         if len(data) != 8:
-            raise i.unknown()
-        self.set_link(data)
+            raise i.not_modelled_error()
+        self.set_return_address(data)
 
     def pop(self, i: Instruction, to: Operand) -> None:
         data = self.values.load(self.values.stack_pointer(), 8)
         self.move_stack(8)
         self.write(to, data)
 
-    def extend(self, to: Operand, source: Operand) -> None:
+    def move_sign_extended(self, to: Operand, source: Operand) -> None:
         """Sets a word to one of fewer bytes, with its sign."""
-        self.write(to, self.values.extended(self.read(source), to.size))
+        self.write(to, self.values.sign_extended(self.read(source), to.size))
 
-    def compute(self, i: Instruction, to: Operand, source: Operand = ONE) -> None:
+    def execute_arithmetic(self, i: Instruction, to: Operand, source: Operand = ONE) -> None:
         """An instruction of ARITHMETIC. A shift by 0 keeps the flags, and is not modelled."""
         name, (kind, operation) = i.name, ARITHMETIC[i.name]
         if name in SHIFTS and (source.kind != "number" or not 0 < source.value < 8 * to.size):
-            raise i.unknown()
+            raise i.not_modelled_error()
         is_same = same(to, source)
         if name == "xor" and is_same:
             self.write(to, [0] * to.size)
         f = lambda a, b: a if is_same and operation in ("xor", "and") else ON_WORDS[operation](self.values, a, b)
-        self.arithmetic(kind, f, to, source, name not in ONLY_FLAGS, operation == "and")
+        self.compute_and_write(kind, f, to, source, name not in ONLY_FLAGS, operation == "and")
 
-    def arithmetic(self, kind: str | None, f: Callable, to: Operand, source: Operand, keep: bool = True,
-                   masks: bool = False) -> None:
+    def compute_and_write(self, kind: str | None, f: Callable, to: Operand, source: Operand, keep: bool = True,
+                          masks: bool = False) -> None:
         """Sets a word and the flags, or only one of these."""
         a, b = self.read(to), self.read(source, to.size)
         if masks:
-            a = self.values.kept_by(a, b)
-        result = self.values.computed(kind, f, a, b) if kind else self.quietly(f, a, b)
+            a = self.values.apply_mask_to_secrets(a, b)
+        result = self.values.compute_and_set_flags(kind, f, a, b) if kind else self.compute_without_flags(f, a, b)
         if keep:
             self.write(to, result)
 
     def add_and_keep_carry(self, i: Instruction, to: Operand) -> None:
         """inc and dec keep the carry, which may be that of a secret."""
         old = self.values.flags
-        self.arithmetic("other", lambda a, b: a + KEEP_CARRY[i.name] * b, to, ONE)
+        self.compute_and_write("other", lambda a, b: a + KEEP_CARRY[i.name] * b, to, ONE)
         now = self.values.flags
         if old.kind in (UNKNOWN, SECRET, "no carry") and now.kind != SECRET:
             self.values.flags = now._replace(kind="no carry")
 
     def multiply(self, i: Instruction, to: Operand, source: Operand) -> None:
         need_public(T.word(self.read(to) + self.read(source, to.size)), "the time of a product")
-        self.arithmetic("product", lambda a, b: ON_WORDS["mul"](self.values, a, b), to, source)
+        self.compute_and_write("product", lambda a, b: ON_WORDS["mul"](self.values, a, b), to, source)
 
-    def with_carry(self, i: Instruction, to: Operand, source: Operand) -> None:
+    def add_with_carry(self, i: Instruction, to: Operand, source: Operand) -> None:
         """Adds or subtracts the carry too, which must be public."""
         sign = ADD_CARRY[i.name]
         if self.values.flags.kind in (UNKNOWN, SECRET, "no carry"):
             raise CannotShow("a carry depends on flags that are not public")
-        carry = T.word([self.values.bit(self.compared("b"))] + [0] * (to.size - 1))
-        self.arithmetic("other", lambda a, b: a + sign * b + sign * carry, to, source)
+        carry = T.word([self.values.bit(self.comparison_of_condition("b"))] + [0] * (to.size - 1))
+        self.compute_and_write("other", lambda a, b: a + sign * b + sign * carry, to, source)
 
-    def of_public(self, i: Instruction, *ops: Operand) -> None:
+    def multiply_or_divide_public(self, i: Instruction, *ops: Operand) -> None:
         """A product or a division, whose operands must be public. One of bytes, into ax, is not modelled."""
         *results, source = ops
         if source.size == 1:
@@ -373,7 +373,7 @@ class X86(Processor):
         for o in [source, *map(register, PRODUCTS[i.name])]:
             need_public(T.word(self.read(o)), "the time of a product or a division")
         for o in results[::-1] or [register(RAX), register(RDX)]:
-            self.write(o, self.values.anything(o.size))
+            self.write(o, self.values.unknown_public_bytes(o.size))
         if not results:                # mulx keeps the flags
             self.values.flags = Flags(UNKNOWN)
 
@@ -395,42 +395,42 @@ class X86(Processor):
             zeros = [0] * min(rest[1].value, bits)
             result = (zeros + masks[0])[:bits] if action[-1] == "l" else masks[0][len(zeros):] + zeros
         else:
-            raise i.unknown()
+            raise i.not_modelled_error()
         self.values.masks[to.index] = result + [0] * (64 - len(result))
 
     def masked_move(self, i: Instruction, to: Operand, source: Operand, *rest: Operand) -> None:
         """A move or a broadcast of which a mask chooses the words. A word that it leaves out is not read."""
         n, step = MASKED.get(i.name[1:], (0, 0))
         if not n or rest or source.kind != "memory":
-            raise i.unknown()
+            raise i.not_modelled_error()
         old = chunks([0] * to.size if to.zeroes else self.values.vector[to.index][:to.size], n)
         address, data = self.address(source), []
         for k, bit in enumerate(self.values.masks[to.mask][:to.size // n]):
             at = address + step * k
-            data += old[k] if bit == 0 else chosen(bit, self.values.load(at, n), old[k])
+            data += old[k] if bit == 0 else select_by_mask_bit(bit, self.values.load(at, n), old[k])
         self.write(to, data, True)
 
     # Vectors.
 
     @classmethod
-    def vector_step(cls, i: Instruction) -> Callable:
+    def vector_executor(cls, i: Instruction) -> Callable:
         """What executes an instruction of a table. Old encodings need operands of 16 bytes in memory to be aligned."""
         vex, ops = i.name.startswith("v"), [o for o in i.operands if o.kind != "number"]
         name, kinds = i.name[vex:], [o.kind for o in ops]
         count, other = LOW_MOVES.get(name, (0, name))
         name = other if "memory" in kinds[:count] else ALIKE.get(name, name)
         if not 0 < READS.get(name, 0) <= len(ops) or "mask" in kinds or any(o.mask is not None for o in ops):
-            raise i.unknown()
+            raise i.not_modelled_error()
         to, is_aligned = ops[0], lambda o: MOVES.get(name, not vex and o.size == 16)
         sources = [(o, is_aligned(o)) for o in ops[-READS[name]:]]
         is_zero = BITWISE.get(name) == "xor" and same(*ops[-2:])
-        make = cls.result(name, [o.value for o in i.operands[len(ops):]])
+        make = cls.vector_operation(name, [o.value for o in i.operands[len(ops):]])
         above = [0] * (8 * (to.kind == "general"))
 
         def step(cpu: Any, *_: Any) -> None:
             data = [[0] * to.size if is_zero else cpu.read(o, to.size, aligned) for o, aligned in sources]
             if name == "ptest":        # the carry is not as after an and of words
-                cpu.values.test(*data)
+                cpu.values.set_flags_by_vector_and(*data)
                 return
             made = make(cpu, data) + above
             if len(made) < to.size:
@@ -439,7 +439,7 @@ class X86(Processor):
         return step
 
     @staticmethod
-    def result(name: str, numbers: list) -> Callable:
+    def vector_operation(name: str, numbers: list) -> Callable:
         """What makes the bytes of an instruction of a table of others, and of its number."""
         if name in BITWISE:
             return lambda cpu, data: cpu.values.combined(BITWISE[name], *data)
@@ -447,25 +447,26 @@ class X86(Processor):
             first, second = TERNARY[numbers[0]]
             return lambda cpu, data: cpu.values.combined(first, data[0], cpu.values.combined(second, *data[1:]))
         if name in MOVED:
-            return lambda cpu, data: cpu.made(True, lambda *sources: moved(MOVED[name], sources, numbers), data)
+            move = lambda *sources: move_parts(MOVED[name], sources, numbers)
+            return lambda cpu, data: cpu.apply_vector_operation(True, move, data)
         if name == "ptest":
             return no_rule
         _, n, f = COMPUTED[name]
-        return lambda cpu, data: cpu.made(False, lambda *sources: f(n, *sources, *numbers), data)
+        return lambda cpu, data: cpu.apply_vector_operation(False, lambda *sources: f(n, *sources, *numbers), data)
 
 
 # What executes instructions of these names: methods, or functions.
 ACTIONS: dict = {
-    **dict.fromkeys(ARITHMETIC, "compute"), **dict.fromkeys(KEEP_CARRY, "add_and_keep_carry"),
-    **dict.fromkeys(ADD_CARRY, "with_carry"), **dict.fromkeys(PRODUCTS, "of_public"),
+    **dict.fromkeys(ARITHMETIC, "execute_arithmetic"), **dict.fromkeys(KEEP_CARRY, "add_and_keep_carry"),
+    **dict.fromkeys(ADD_CARRY, "add_with_carry"), **dict.fromkeys(PRODUCTS, "multiply_or_divide_public"),
     **dict.fromkeys(["set" + c for c in CONDITIONS], lambda cpu, i, to: cpu.write(
-        to, [cpu.values.bit(cpu.compared(i.name[3:]))])),
+        to, [cpu.values.bit(cpu.comparison_of_condition(i.name[3:]))])),
     **dict.fromkeys(["cmov" + c for c in CONDITIONS], lambda cpu, i, to, source: cpu.write(to, cpu.values.chosen(
-        cpu.compared(i.name[4:]), cpu.read(source, to.size), cpu.read(to)))),
+        cpu.comparison_of_condition(i.name[4:]), cpu.read(source, to.size), cpu.read(to)))),
     **dict.fromkeys(("mov", "movabs"), lambda cpu, i, to, source: cpu.write(
         to, cpu.read(source, to.size or source.size))),
-    **dict.fromkeys(("movsx", "movsxd"), lambda cpu, i, to, source: cpu.extend(to, source)),
-    "cdqe": lambda cpu, i: cpu.extend(REGISTER["rax"], REGISTER["eax"]),
+    **dict.fromkeys(("movsx", "movsxd"), lambda cpu, i, to, source: cpu.move_sign_extended(to, source)),
+    "cdqe": lambda cpu, i: cpu.move_sign_extended(REGISTER["rax"], REGISTER["eax"]),
     "movzx": lambda cpu, i, to, source: cpu.write(to, (cpu.read(source) + [0] * 8)[:to.size]),
     "lea": lambda cpu, i, to, source: cpu.write(to, T.split(cpu.address(source))[:to.size]),
     "push": "push", "pop": "pop", "imul": "multiply", "vzeroupper": "zero_upper", "nop": lambda *_: None,

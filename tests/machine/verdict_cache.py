@@ -24,16 +24,16 @@ TOOLS += [os.environ.get("CC", "cc"), "qemu-aarch64", "node"]
 
 
 @functools.lru_cache(maxsize=None)
-def content(path: str) -> str:
-    """The hash of a file."""
+def file_hash(path: str) -> str:
     with open(os.path.join(ROOT, path), "rb") as f:
         return hashlib.sha256(f.read()).hexdigest()
 
 
-def surroundings() -> str:
+def environment_hash() -> str:
     """The hash of what all verdicts depend on."""
     names = {part: sorted(p for each in part for p in glob.glob(each, root_dir=ROOT)) for part in (FILES, NAMES)}
-    found: list[Any] = [names[NAMES], [(name, content(name)) for name in names[FILES]], sys.version, platform.machine()]
+    hashes = [(name, file_hash(name)) for name in names[FILES]]
+    found: list[Any] = [names[NAMES], hashes, sys.version, platform.machine()]
     for path in [os.path.realpath(str(p)) for p in map(shutil.which, TOOLS) if p]:
         found.append((path, os.stat(path).st_size, os.stat(path).st_mtime_ns))
     with open("/proc/cpuinfo", encoding="utf-8") as f:
@@ -42,31 +42,31 @@ def surroundings() -> str:
     return hashlib.sha256(repr(found).encode()).hexdigest()
 
 
-class Kept:
+class VerdictCache:
     """The verdicts of this state of the tool, by the titles of checks: why, and the hashes of the files read; and the
     results of the last run, each a verdict, a title and why."""
 
     def __init__(self) -> None:
-        self.path = os.path.join(FOLDER, surroundings() + ".json")
+        self.path = os.path.join(FOLDER, environment_hash() + ".json")
         try:
             with open(self.path, encoding="utf-8") as f:
                 self.verdicts, self.results = json.load(f)
         except (OSError, ValueError):
             self.verdicts, self.results = {}, []
 
-    def run(self) -> list:
+    def results_if_all_known(self) -> list:
         """The results of a run, if they are known without one: each check was right, or skipped, and is kept."""
-        is_known = lambda verdict, title, _: verdict == "skip" or verdict == "ok" and self.find(title) is not None
-        return self.results if all(is_known(*result) for result in self.results) else []
+        is_known = lambda verdict, title: verdict == "skip" or verdict == "ok" and self.kept_reason(title) is not None
+        return self.results if all(is_known(*result[:2]) for result in self.results) else []
 
-    def find(self, title: str) -> str | None:
+    def kept_reason(self, title: str) -> str | None:
         """Why a check was right, or None."""
         why, files = self.verdicts.get(title, (None, {}))
-        return why if all(os.path.exists(os.path.join(ROOT, path)) and content(path) == found
+        return why if all(os.path.exists(os.path.join(ROOT, path)) and file_hash(path) == found
                           for path, found in files.items()) else None
 
-    def keep(self, title: str, why: str, files: set) -> None:
-        self.verdicts[title] = why, {path: content(path) for path in sorted(files)}
+    def keep_verdict(self, title: str, why: str, files: set) -> None:
+        self.verdicts[title] = why, {path: file_hash(path) for path in sorted(files)}
 
     def save(self, results: list) -> None:
         """Writes them, if there is a place, and removes the oldest of other states."""
