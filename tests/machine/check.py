@@ -339,8 +339,9 @@ def tests_of_the_tool() -> Iterator[Job]:
             *[("the rules of terms at %d bits" % width, SOLVER, check_terms.check_rules, width, is_long())
               for width in few((64, 32, 16, 8), (8,))],
             *[("comparisons of whole calls are decided right", SOLVER, check_numbers.check_decisions, seed,
-               few(25000, 100))
+               few(15000, 100), 3000)
               for seed in range(few(4, 1))],
+            ("a solver that gave up is not asked again", SOLVER, check_numbers.check_giving_up),
             *[("the tool's tests see %s" % change.title, assembly, change.check_is_seen)
               for change in changes.PLANTED if is_long() or not change.is_long],
             ("the specification of whole calls agrees with hashlib", None, check_paths.check_specified_digests,

@@ -9,7 +9,7 @@ from typing import Callable
 import terms as T
 import x86
 from call_cases import variable_of
-from facts import RELATIONS, PathFacts
+from facts import RELATIONS, PathFacts, z3
 from symbolic import SymbolicState, UndecidedComparison, choose_if_below, fresh_bytes
 from taint import TaintState
 from terms import OPPOSITE, signed
@@ -220,15 +220,31 @@ def check_taint_ranges(count: int) -> tuple:
     return "ok", "%d runs of %d steps" % (count, 2 * STEPS)
 
 
-def check_decisions(seed: int, count: int) -> tuple:
-    """Refuses a wrong decision of so many. Returns a verdict, and what was tried. A long question is open."""
+def check_giving_up() -> tuple:
+    """Refuses a solver that is kept after it gave up: the next answer may be wrong."""
+    a, b = z3.Ints("a b")
+    whole, PathFacts.effort = PathFacts.effort, 1
+    PathFacts.forget_solver()
+    found = PathFacts().find_model([a > 1, b > 1, a * b == 2 ** 61 - 1])
+    PathFacts.effort = whole
+    return "ok" if found is None and PathFacts.solver is None else "not ok", "a long question gives %s" % found
+
+
+def check_decisions(seed: int, count: int, effort: int) -> tuple:
+    """Refuses a wrong decision of so many, with this effort for each: many are open. Returns a verdict, and what was
+    tried."""
     rng, decided, runs = random.Random(seed), 0, 0
     if len(set(SymbolicState({}, x86.X86, (16, 0)).sign_extended(fresh_bytes("secret", T.SECRET, 4), 8))) < 8:
         return "not ok", "all bytes of a secret with its sign are called the same"
-    PathFacts().find_model()                      # makes the solver
-    PathFacts.solver.set("timeout", 30)
-    while decided < count:
-        runs += 1
-        decided += SymbolicRun(rng, lambda: SymbolicState({}, x86.X86, (16, 0)), SMALL + LARGE * (runs % 8 == 0)).run()
+    whole = PathFacts.effort
+    PathFacts.effort = effort
     PathFacts.forget_solver()
+    try:
+        while decided < count:
+            runs += 1
+            run = SymbolicRun(rng, lambda: SymbolicState({}, x86.X86, (16, 0)), SMALL + LARGE * (runs % 8 == 0))
+            decided += run.run()
+    finally:
+        PathFacts.effort = whole
+        PathFacts.forget_solver()
     return "ok", "%d comparisons, in %d runs" % (decided, runs)

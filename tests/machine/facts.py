@@ -19,9 +19,6 @@ except ImportError:                    # check.py then skips whole calls
     z3 = None
 
 DEBIAN = "/usr/bin/python3"            # which has the packages of Debian, where another Python is in use
-# Of Z3 for a question, in its own units; then it is open. A limit of time needs a thread, and z3.Solver() a strategy,
-# which take longer than most questions.
-EFFORT = 100000
 RELATIONS: dict = {"==": operator.eq, "!=": operator.ne, "<": operator.lt, "<=": operator.le,
                    ">": operator.gt, ">=": operator.ge}
 
@@ -192,6 +189,9 @@ class PathFacts:
 
     solver: Any = None
     told: frozenset = frozenset()      # the names of the facts that it has
+    # Of Z3 for a question, in its own units; then it is open. A limit of time needs a thread, and z3.Solver() a
+    # strategy, which take longer than most questions.
+    effort = 100000
 
     def __init__(self, claim: Callable | None = None, words: tuple = (), before: "PathFacts | None" = None,
                  *name: Any) -> None:
@@ -292,7 +292,7 @@ class PathFacts:
         solver keeps the facts, by their names, for the next question."""
         if cls.solver is None:
             cls.solver, cls.told = z3.SimpleSolver(), frozenset()
-            cls.solver.set("rlimit", EFFORT)
+            cls.solver.set("rlimit", cls.effort)
             cls.solver.push()
         if names != cls.told:
             cls.solver.pop()
@@ -305,6 +305,8 @@ class PathFacts:
             numbers = {t.args: found.eval(integer_of_term(t), model_completion=True).as_long()
                        for t in frozenset().union(*[f.own for f in facts], *map(T.variables, words))}
         cls.solver.pop()
+        if answer == z3.unknown:       # a solver that gave up may be wrong about what it is asked then
+            cls.forget_solver()
         return False if answer == z3.unsat else numbers
 
     @classmethod
