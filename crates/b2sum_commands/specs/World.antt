@@ -48,7 +48,8 @@ pub record Streams : Type 0 where
   pub messages_failed : Bool
   pub place : Place
 
--- There is an open file of this name of which a read failed.
+-- There is an open file of this name of which a read failed. Contracts say this of any type of open
+-- files, so the only way to show it is a read of the run's own.
 abbrev pub HasFailed : {F : Type 0} → (F → List ℕ) → (F → Bool) → List ℕ → Type 0
 HasFailed {F} named failed name = (file : F) × (named file ≡ name) × (failed file ≡ true)
 

@@ -77,8 +77,6 @@ fn check_choice(alloc: Global, reader: &Reader, files: &[Vec<u8>]) -> Result<(),
     ensures accepted { OnOk result
         (accepted (choice_of reader.now) (map (λ file. file.items) files.now) ≡ true) }
     ensures bits { OnOk result (reader.now.bits ≤ 8 * max_bytes reader.now.algorithm) }
-    ensures tree { OnOk result
-        (reader.now.leaf ≢ None → has_trees reader.now.algorithm ≡ true) }
     ensures stop { IfErr result
         (IsUnfit (accepted (choice_of reader.now) (map (λ file. file.items) files.now))) }
 {
@@ -103,11 +101,6 @@ fn chosen_persona(digits: Vec<u8>, text: Vec<u8>) -> Vec<u8>
 // Returns the algorithm, with the leaves of a tree.
 fn chosen_algorithm(reader: &Reader) -> Algorithm
     ensures is { result ≡ with_leaf reader.now.algorithm reader.now.leaf }
-    ensures most { (reader.now.leaf ≢ None → has_trees reader.now.algorithm ≡ true)
-        → max_bytes result ≡ max_bytes reader.now.algorithm }
-    ensures leaf { is_tree result ≡ false → reader.now.leaf ≡ None }
-    ensures plain { reader.now.leaf ≡ None → result ≡ reader.now.algorithm }
-    ensures tree { IfSome reader.now.leaf (λ leaf. result ≡ Tree leaf) }
 {
     match reader.leaf {
         Some(leaf) => Algorithm::Tree(leaf),
@@ -118,7 +111,6 @@ fn chosen_algorithm(reader: &Reader) -> Algorithm
 // Returns the number of bytes of the digests that are printed, at most 64.
 fn output_bytes(reader: &Reader) -> usize
     ensures size { result ≤ 64 }
-    ensures most { result ≤ max_bytes reader.now.algorithm }
     ensures whole { reader.now.bits ≡ 0 → result ≡ max_bytes reader.now.algorithm }
     ensures given { reader.now.bits ≢ 0 → reader.now.bits ≤ 8 * max_bytes reader.now.algorithm
         → result ≡ reader.now.bits / 8 }
@@ -166,16 +158,6 @@ fn needs_of(reader: &Reader) -> Needs
 
 fn style_of(reader: &Reader) -> Style
     ensures is { result ≡ chosen_style (choice_of reader.now) }
-    ensures tagged { reader.now.leaf ≢ None
-        → result ≡ Tagged (chosen_needs (choice_of reader.now)) }
-    ensures text { reader.now.leaf ≡ None → reader.now.is_tagged ≡ false
-        → reader.now.is_binary ≡ None → result ≡ Text }
-    ensures tags { reader.now.is_tagged ≡ true
-        → result ≡ Tagged (chosen_needs (choice_of reader.now)) }
-    ensures binary { reader.now.leaf ≡ None → reader.now.is_tagged ≡ false
-        → reader.now.is_binary ≡ Some true → result ≡ Binary }
-    ensures plain { reader.now.leaf ≡ None → reader.now.is_tagged ≡ false
-        → reader.now.is_binary ≢ Some true → result ≡ Text }
 {
     if reader.is_tagged || reader.leaf.is_some() {
         Style::Tagged(needs_of(reader))
@@ -214,12 +196,6 @@ fn check_length(alloc: Global, reader: &Reader) -> Result<(), Stop>
 // Refuses a salt and a persona that are longer than the algorithm's.
 fn check_labels(alloc: Global, reader: &Reader) -> Result<(), Stop>
     ensures labels { OnOk result (has_labels (choice_of reader.now) ≡ true) }
-    ensures salt { OnOk result
-        (4 * length reader.now.salt.items ≤ max_bytes reader.now.algorithm) }
-    ensures persona { OnOk result
-        (4 * length reader.now.persona.items ≤ max_bytes reader.now.algorithm) }
-    ensures text { OnOk result
-        (4 * length reader.now.persona_text.items ≤ max_bytes reader.now.algorithm) }
     ensures stop { IfErr result (IsUnfit (has_labels (choice_of reader.now))) }
 {
     let most = reader.algorithm.max_bytes() / 4;
@@ -243,13 +219,6 @@ fn has_trees(algorithm: Algorithm) -> bool
 // Returns the message of options that do not go together.
 fn conflict(reader: &Reader) -> Option<&'static [u8]>
     ensures is { is_none result ≡ goes_together (choice_of reader.now) }
-    ensures tree { result ≡ None → reader.now.leaf ≢ None
-        → has_trees reader.now.algorithm ≡ true }
-    ensures check { result ≡ None → reader.now.checks ≡ true → (reader.now.ends_zero ≡ false)
-        × (reader.now.is_tagged ≡ false) × (reader.now.is_binary ≡ None) }
-    ensures sums { result ≡ None → reader.now.checks ≡ false
-        → (reader.now.ignores_missing ≡ false) × (reader.now.is_strict ≡ false)
-        × (reader.now.report ≡ Each) }
 {
     if let Some(text) = conflict_of_seals(reader) {
         return Some(text);
@@ -270,13 +239,6 @@ fn conflict(reader: &Reader) -> Option<&'static [u8]>
 // do not go together.
 fn conflict_of_task(reader: &Reader) -> Option<&'static [u8]>
     ensures is { is_none result ≡ goes_with_task (choice_of reader.now) }
-    ensures tree { result ≡ None → reader.now.leaf ≢ None
-        → has_trees reader.now.algorithm ≡ true }
-    ensures check { result ≡ None → reader.now.checks ≡ true → (reader.now.ends_zero ≡ false)
-        × (reader.now.is_tagged ≡ false) × (reader.now.is_binary ≡ None) }
-    ensures sums { result ≡ None → reader.now.checks ≡ false
-        → (reader.now.ignores_missing ≡ false) × (reader.now.is_strict ≡ false)
-        × (reader.now.report ≡ Each) }
 {
     if reader.is_tagged && reader.is_binary == Some(false) {
         return Some(b"--tag does not support --text mode");
@@ -411,8 +373,6 @@ const SHOWN_MAC: &[u8] =
 
 fn conflict_of_check(reader: &Reader) -> Option<&'static [u8]>
     ensures is { is_none result ≡ goes_with_check (choice_of reader.now) }
-    ensures check { result ≡ None → (reader.now.ends_zero ≡ false)
-        × (reader.now.is_tagged ≡ false) × (reader.now.is_binary ≡ None) }
 {
     if reader.ends_zero {
         return Some(b"the --zero option is not supported when verifying checksums");
@@ -460,8 +420,6 @@ fn has_dash(files: &[Vec<u8>]) -> bool
 
 fn conflict_of_sums(reader: &Reader) -> Option<&'static [u8]>
     ensures is { is_none result ≡ goes_with_sums (choice_of reader.now) }
-    ensures sums { result ≡ None → (reader.now.ignores_missing ≡ false)
-        × (reader.now.is_strict ≡ false) × (reader.now.report ≡ Each) }
 {
     if reader.ignores_missing {
         return Some(b"the --ignore-missing option is meaningful only when verifying checksums");
