@@ -7,37 +7,39 @@ use Rattle.std.specs.Io.KnownBytes.{Appends}
 use Rattle.std.specs.List.{flat_map, range_with_len}
 use Rattle.text_lines.specs.Cuts.{lines_of}
 use Rattle.b2_commands.specs.declared.fault.Fault.{Fault}
-use Rattle.b2_commands.specs.LeafDigests.{digest_at, digests_from, read_digests}
+use Rattle.b2_commands.specs.LeafDigests.{digest_of_numbered_line, digests_of_lines, read_digests}
 use Rattle.b2_commands.specs.ArgumentTasks.{and_then}
 
 -- Digests, followed by those of later lines.
-abbrev pub followed : List ℕ → Result (List ℕ) Fault → Result (List ℕ) Fault
-followed digests (Ok later) = Ok (digests ++ later)
-followed digests (Err fault) = Err fault
+abbrev pub prepend_digests : List ℕ → Result (List ℕ) Fault → Result (List ℕ) Fault
+prepend_digests digests (Ok later) = Ok (digests ++ later)
+prepend_digests digests (Err fault) = Err fault
 
 -- One more digest follows the earlier ones.
-one_more : (digests digest : List ℕ) (later : Result (List ℕ) Fault)
-    → followed digests (and_then later (λ more. Ok (digest ++ more)))
-    ≡ followed (digests ++ digest) later
-one_more digests digest (Ok more) = ap Ok (sym (append_assoc digests digest more))
-one_more digests digest (Err fault) = refl
+prepend_digests-append : (digests digest : List ℕ) (later : Result (List ℕ) Fault)
+    → prepend_digests digests (and_then later (λ more. Ok (digest ++ more)))
+    ≡ prepend_digests (digests ++ digest) later
+prepend_digests-append digests digest (Ok more) = ap Ok (sym (append_assoc digests digest more))
+prepend_digests-append digests digest (Err fault) = refl
 
 -- The next line has a digest: the digests of all lines are the earlier ones, that one, and those of
 -- the later lines.
-pub reads_next_line : (all : Result (List ℕ) Fault) (digests digest : List ℕ) (number : ℕ)
-    (line : List ℕ) (lines rest : List (List ℕ)) → all ≡ followed digests (digests_from number rest)
-    → rest ≡ line ∷ lines → digest_at number line ≡ Ok digest
-    → all ≡ followed (digests ++ digest) (digests_from (number + 1) lines)
-reads_next_line all digests digest number line lines rest is first read =
-    is ∙ rw (first, read) (one_more digests digest (digests_from (number + 1) lines))
+pub prepend_digests-next_line : (all : Result (List ℕ) Fault) (digests digest : List ℕ) (number : ℕ)
+    (line : List ℕ) (lines rest : List (List ℕ))
+    → all ≡ prepend_digests digests (digests_of_lines number rest)
+    → rest ≡ line ∷ lines → digest_of_numbered_line number line ≡ Ok digest
+    → all ≡ prepend_digests (digests ++ digest) (digests_of_lines (number + 1) lines)
+prepend_digests-next_line all digests digest number line lines rest is first read =
+    is ∙ rw (first, read) (prepend_digests-append digests digest
+    (digests_of_lines (number + 1) lines))
 
 -- A text that is not empty is read from its first line on.
-pub read_first : (text : List ℕ) → 0 < length text
-    → read_digests text ≡ followed [] (digests_from 1 (lines_of text))
-read_first [] some = absurd (omega arith)
-read_first (b ∷ text) some = same (digests_from 1 (lines_of (b ∷ text)))
+pub read_digests-from_first_line : (text : List ℕ) → 0 < length text
+    → read_digests text ≡ prepend_digests [] (digests_of_lines 1 (lines_of text))
+read_digests-from_first_line [] some = absurd (omega arith)
+read_digests-from_first_line (b ∷ text) some = same (digests_of_lines 1 (lines_of (b ∷ text)))
   where
-    same : (r : Result (List ℕ) Fault) → r ≡ followed [] r
+    same : (r : Result (List ℕ) Fault) → r ≡ prepend_digests [] r
     same (Ok digests) = refl
     same (Err fault) = refl
 
@@ -54,10 +56,10 @@ flat_map-last f a (suc n) =
     ∙ ap (λ i. flat_map f (range_with_len a (suc n)) ++ f i) at
 
 -- What is printed for the next number follows what was printed for those before it.
-pub printed_next : (f : ℕ → List ℕ) (i : ℕ) (old mid new : Option (List ℕ)) (line : List ℕ)
+pub Appends-next_of_range : (f : ℕ → List ℕ) (i : ℕ) (old mid new : Option (List ℕ)) (line : List ℕ)
     → Appends old mid (flat_map f (range_with_len 0 i)) → line ≡ f i → Appends mid new line
     → Appends old new (flat_map f (range_with_len 0 (i + 1)))
-printed_next f i old mid new line before is next =
+Appends-next_of_range f i old mid new line before is next =
     let one : i + 1 ≡ suc i = omega arith in
     let here : 0 + i ≡ i = omega arith in
     let more : flat_map f (range_with_len 0 (i + 1)) ≡ flat_map f (range_with_len 0 i) ++ line =

@@ -3,46 +3,46 @@ use Rattle.std.proofs.Common.{◌≡◌, ℕ, Bool, List, Option, Result, Ok, Er
 use Rattle.std.proofs.lemmas.Grind.{common_steps}
 use Rattle.std.specs.Prelude.{◌↔◌, IsErrOf, IsTrue}
 use Rattle.blake2.specs.Family.{Family, blake2b, blake2s}
-use Rattle.blake2.specs.MacArguments.{key_count, IsRefused}
+use Rattle.blake2.specs.MacArguments.{key_count, HasRefusedLength}
 use Rattle.blake2.specs.Streams.{line_of}
 use Rattle.b2_commands.specs.declared.fault.Fault.{Fault}
 use Rattle.b2_commands.specs.declared.fault.Fault.TheVariants.{WrongLength, ReadFailed, NoMemory}
 use Rattle.b2_commands.specs.declared.fault.Fault.TheVariants.{WriteFailed}
-use Rattle.b2_commands.specs.ArgumentTasks.{Given, Kind, nothing_given}
+use Rattle.b2_commands.specs.ArgumentTasks.{GivenOptions, Kind, nothing_given}
 use Rattle.b2_commands.specs.ArgumentTasks.Task.{to_sum, to_script}
 use Rattle.b2_commands.specs.Scripts.{script_digests}
-use Rattle.b2_commands.specs.Tasks.{digest_with, IsRefusedBy}
-use Rattle.b2_commands.specs.TaskEnds.{EndsTask, EndsBy, EndsByDigests}
+use Rattle.b2_commands.specs.Tasks.{digest_with, IsRefusedByFamily}
+use Rattle.b2_commands.specs.TaskEnds.{EndsTask, EndsByPrinting, EndsByPrintingDigests}
 
 -- If no option is given, none is refused.
-pub nothing_taken : (f : Family) → IsRefusedBy f nothing_given → ⊥
-unfolding IsRefused
-nothing_taken blake2b refused = grind arith
-nothing_taken blake2s refused = grind arith
+pub nothing_given-is_not_refused : (f : Family) → IsRefusedByFamily f nothing_given → ⊥
+unfolding HasRefusedLength
+nothing_given-is_not_refused blake2b refused = grind arith
+nothing_given-is_not_refused blake2s refused = grind arith
 
-pub sum_ends : (kind : Kind) (given : Given) (result : Result (Unit {0}) Fault)
+pub EndsTask-to_sum : (kind : Kind) (given : GivenOptions) (result : Result (Unit {0}) Fault)
     (left : Option (List ℕ)) (read_failed write_failed : Bool) (old new : Option (List ℕ))
-    → (IsRefusedBy kind.family given → ⊥)
+    → (IsRefusedByFamily kind.family given → ⊥)
     → (result ≡ Err WrongLength → ⊥)
     → (IsErrOf result ReadFailed ↔ IsTrue read_failed)
     → (IsErrOf result WriteFailed ↔ IsTrue write_failed)
     → (result ≡ Err NoMemory → ⊥)
-    → EndsBy (λ message. line_of (digest_with kind.family kind.bytes given message))
+    → EndsByPrinting (λ message. line_of (digest_with kind.family kind.bytes given message))
     (key_count kind.family given.key) result left old new
     → EndsTask (to_sum kind given) result left read_failed write_failed old new
-sum_ends kind given result left rf wf old new taken length read write memory ends =
+EndsTask-to_sum kind given result left rf wf old new taken length read write memory ends =
     grind (arith, common_steps)
 
-pub script_ends : (kind : Kind) (given : Given) (result : Result (Unit {0}) Fault)
+pub EndsTask-to_script : (kind : Kind) (given : GivenOptions) (result : Result (Unit {0}) Fault)
     (left : Option (List ℕ)) (read_failed write_failed : Bool) (old new : Option (List ℕ))
-    → (IsRefusedBy kind.family given → ⊥)
+    → (IsRefusedByFamily kind.family given → ⊥)
     → (result ≡ Err WrongLength → ⊥)
     → (IsErrOf result ReadFailed ↔ IsTrue read_failed)
     → (IsErrOf result WriteFailed ↔ IsTrue write_failed)
-    → EndsByDigests (script_digests (digest_with kind.family kind.bytes given)
+    → EndsByPrintingDigests (script_digests (digest_with kind.family kind.bytes given)
     (key_count kind.family given.key)) result left old new
     → EndsTask (to_script kind given) result left read_failed write_failed old new
-script_ends kind given (Ok _) left rf wf old new taken length read write ends =
+EndsTask-to_script kind given (Ok _) left rf wf old new taken length read write ends =
     grind (arith, common_steps)
-script_ends kind given (Err fault) left rf wf old new taken length read write ends =
+EndsTask-to_script kind given (Err fault) left rf wf old new taken length read write ends =
     grind (arith, common_steps)

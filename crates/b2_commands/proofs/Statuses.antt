@@ -7,45 +7,51 @@ use Rattle.std.specs.Io.KnownBytes.{Appends}
 use Rattle.b2_commands.specs.declared.fault.Fault.{Fault}
 use Rattle.b2_commands.specs.ArgumentTasks.{Task, task_of}
 use Rattle.b2_commands.specs.Tasks.{IsDone}
-use Rattle.b2_commands.specs.Faults.{IsTold, status_of, fault_line}
+use Rattle.b2_commands.specs.Faults.{ReportsFault, exit_status_of, fault_line}
 use Rattle.b2_commands.specs.TaskEnds.{EndsTask}
 
 -- A status other than 0, if no write failed: the line of the task's error is printed.
-pub told_by : (words : List (List ℕ)) (task : Task) (end : Result (Unit {0}) Fault)
+pub ReportsFault-if_status_nonzero : (words : List (List ℕ)) (task : Task)
+    (end : Result (Unit {0}) Fault)
     (left rest : Option (List ℕ)) (read_failed write_failed failed : Bool) (status : ℕ)
     (old mid new : Option (List ℕ))
     → task_of words ≡ Ok task
     → EndsTask task end left read_failed write_failed old mid
     → OnOk end (status ≡ 0)
     → IfErr end (λ fault. failed ≡ false →
-    (status ≡ status_of fault) × Appends mid new (fault_line fault))
+    (status ≡ exit_status_of fault) × Appends mid new (fault_line fault))
     → (IsTrue write_failed → IsTrue failed)
-    → status ≢ 0 → failed ≡ false → IsTold words left rest read_failed status old new
-told_by words task (Ok _) left rest rf wf failed status old mid new is ends done printed stays some
+    → status ≢ 0 → failed ≡ false → ReportsFault words left rest read_failed status old new
+ReportsFault-if_status_nonzero words task (Ok _) left rest rf wf failed status old mid new is ends
+    done printed stays some
     none =
     grind (arith, common_steps)
-told_by words task (Err fault) left rest rf wf failed status old mid new is ends done printed stays
+ReportsFault-if_status_nonzero words task (Err fault) left rest rf wf failed status old mid new is
+    ends done printed stays
     some none =
     grind (arith, common_steps)
 
 -- No error has status 0.
-some_status : (fault : Fault) → 0 < status_of fault
-some_status fault = grind arith
+exit_status_of-positive : (fault : Fault) → 0 < exit_status_of fault
+exit_status_of-positive fault = grind arith
 
 -- Status 0: the task is done.
-pub done_by : (words : List (List ℕ)) (task : Task) (end : Result (Unit {0}) Fault)
+pub IsDone-if_status_zero : (words : List (List ℕ)) (task : Task) (end : Result (Unit {0}) Fault)
     (left : Option (List ℕ)) (read_failed write_failed failed : Bool) (status : ℕ)
     (old mid new : Option (List ℕ))
     → task_of words ≡ Ok task
     → EndsTask task end left read_failed write_failed old mid
     → OnOk end (new ≡ mid)
     → IfErr end (λ fault. failed ≡ false →
-    (status ≡ status_of fault) × Appends mid new (fault_line fault))
+    (status ≡ exit_status_of fault) × Appends mid new (fault_line fault))
     → (IsTrue failed → status ≡ 1)
     → status ≡ 0 → IsOkAnd (task_of words) (λ named. IsDone named left old new)
-done_by words task (Ok _) left rf wf failed status old mid new is ends done printed told zero =
+IsDone-if_status_zero words task (Ok _) left rf wf failed status old mid new is ends done printed
+    told zero =
     rw (is, done) ends.done
-done_by words task (Err fault) left rf wf true status old mid new is ends done printed told zero =
+IsDone-if_status_zero words task (Err fault) left rf wf true status old mid new is ends done printed
+    told zero =
     absurd (omega (arith, zero, told (search rules)))
-done_by words task (Err fault) left rf wf false status old mid new is ends done printed told zero =
-    absurd (omega (arith, zero, (printed refl).0, some_status fault))
+IsDone-if_status_zero words task (Err fault) left rf wf false status old mid new is ends done
+    printed told zero =
+    absurd (omega (arith, zero, (printed refl).0, exit_status_of-positive fault))

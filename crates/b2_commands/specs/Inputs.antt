@@ -8,7 +8,7 @@ IsKeyOfBytes None = ⊤
 IsKeyOfBytes (Some key) = AreBytes key
 
 -- The parts of an input consist of bytes, as their types say.
-pub record IsOfBytes (a : Input) : Type 0 where
+pub record ConsistsOfBytes (a : Input) : Type 0 where
   pub salt : AreBytes a.salt
   pub persona : AreBytes a.persona
   pub key : IsKeyOfBytes a.key

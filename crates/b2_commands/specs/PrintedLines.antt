@@ -42,8 +42,8 @@ abbrev pub flag_field : Bool → List ℕ
 flag_field flag = if flag then codes " 1" else codes " 0"
 
 -- The line of a transcript's parameter words.
-abbrev pub words_line : Family → List ℕ → List ℕ
-words_line f words = codes "w" ++ word_fields f words ++ 10 ∷ []
+abbrev pub parameter_words_line : Family → List ℕ → List ℕ
+parameter_words_line f words = codes "w" ++ word_fields f words ++ 10 ∷ []
 
 -- The line of an entry: its counter, final flag and block.
 abbrev pub entry_line : Entry → List ℕ
@@ -60,5 +60,5 @@ step_line f s =
 -- step without its chaining words.
 abbrev pub transcript_lines : Family → ℕ → Input → List ℕ
 transcript_lines f n a =
-    words_line f (parameter_words f (input_parameters n a))
+    parameter_words_line f (parameter_words f (input_parameters n a))
     ++ flat_map entry_line (map entry (steps f n a))

@@ -24,28 +24,29 @@ abbrev pub slot_value : List ℕ → Option ℕ
 slot_value digits = number_value 9 digits
 
 -- The bytes as a slice. What calls return does not depend on its address.
-abbrev pub slice_of : List ℕ → Bor (List ℕ)
-slice_of bytes = record { ref_ptr = (0, 0); now = bytes }
+abbrev pub slice_of_bytes : List ℕ → Bor (List ℕ)
+slice_of_bytes bytes = record { ref_ptr = (0, 0); now = bytes }
 
 -- The update of a slot with the bytes of HEX, if HEX is right.
-abbrev pub update_with : ℕ → Result (List ℕ) Fault → Option Call
-update_with slot (Ok bytes) = Some (Update slot (slice_of bytes))
-update_with slot (Err fault) = None
+abbrev pub update_if_ok : ℕ → Result (List ℕ) Fault → Option Call
+update_if_ok slot (Ok bytes) = Some (Update slot (slice_of_bytes bytes))
+update_if_ok slot (Err fault) = None
 
 -- The update with the fields SLOT and HEX.
-abbrev pub update_call : List ℕ → List ℕ → Option Call
-update_call slot digits =
-    option_and_then (λ k. update_with k (message_value digits)) (slot_value slot)
+abbrev pub update_of_slot_and_hex : List ℕ → List ℕ → Option Call
+update_of_slot_and_hex slot digits =
+    option_and_then (λ k. update_if_ok k (message_value digits)) (slot_value slot)
 
 -- The update with the fields after its name.
-abbrev pub update_fields : List ℕ → Option Call
-update_fields fields = option_and_then (λ parts. update_call parts.0 parts.1) (cut_at 32 fields)
+abbrev pub update_of_fields : List ℕ → Option Call
+update_of_fields fields =
+    option_and_then (λ parts. update_of_slot_and_hex parts.0 parts.1) (cut_at 32 fields)
 
 -- The call with this name and the fields after it.
-abbrev pub named_call : List ℕ → List ℕ → Option Call
-named_call name fields =
+abbrev pub call_by_name : List ℕ → List ℕ → Option Call
+call_by_name name fields =
     if bytes_eq name (codes "u")
-    then update_fields fields
+    then update_of_fields fields
     else if bytes_eq name (codes "c") then option_map Clone (slot_value fields)
     else if bytes_eq name (codes "r") then option_map Reset (slot_value fields)
     else if bytes_eq name (codes "f") then option_map Finalize (slot_value fields)
@@ -54,23 +55,23 @@ named_call name fields =
 
 -- The call of a line: its name, SLOT, and HEX of an update, with one space between them. A wrong
 -- line has no call.
-abbrev pub call_of : List ℕ → Option Call
-call_of line = option_and_then (λ parts. named_call parts.0 parts.1) (cut_at 32 line)
+abbrev pub call_of_line : List ℕ → Option Call
+call_of_line line = option_and_then (λ parts. call_by_name parts.0 parts.1) (cut_at 32 line)
 
 -- The call of the line with this number, or the error of a wrong line.
-abbrev pub call_at : ℕ → List ℕ → Result Call Fault
-call_at number line = ok_or (call_of line) (WrongLine number)
+abbrev pub call_of_numbered_line : ℕ → List ℕ → Result Call Fault
+call_of_numbered_line number line = ok_or (call_of_line line) (WrongLine number)
 
 -- The calls of lines, the first of which has this number.
-abbrev pub calls_from : ℕ → List (List ℕ) → Result (List Call) Fault
-calls_from number [] = Ok []
-calls_from number (line ∷ lines) =
-    and_then (call_at number line)
-    (λ call. and_then (calls_from (number + 1) lines) (λ calls. Ok (call ∷ calls)))
+abbrev pub calls_of_lines : ℕ → List (List ℕ) → Result (List Call) Fault
+calls_of_lines number [] = Ok []
+calls_of_lines number (line ∷ lines) =
+    and_then (call_of_numbered_line number line)
+    (λ call. and_then (calls_of_lines (number + 1) lines) (λ calls. Ok (call ∷ calls)))
 
 -- The calls of a script, or the error of its first wrong line.
 abbrev pub script_calls : List ℕ → Result (List Call) Fault
-script_calls text = calls_from 1 (lines_of text)
+script_calls text = calls_of_lines 1 (lines_of text)
 
 -- The error of the program for an error of a list of calls: the call at index i, from 0, is in line
 -- i + 1.

@@ -10,7 +10,7 @@ use Rattle.b2_commands.specs.declared.fault.Fault.TheVariants.{LineTooLong, TooL
 use Rattle.b2_commands.specs.declared.fault.Fault.TheVariants.{NoMemory, WriteFailed}
 use Rattle.b2_commands.specs.ArgumentTasks.{Task}
 use Rattle.b2_commands.specs.Tasks.{IsDone}
-use Rattle.b2_commands.specs.Faults.{IsDue}
+use Rattle.b2_commands.specs.Faults.{IsFaultOfTask}
 
 -- How a task ends on what a source had left. The error of a device is returned exactly if the
 -- device failed. Otherwise the task is done, or the error is due. After anything is printed, only a
@@ -20,43 +20,43 @@ pub record EndsTask (task : Task) (result : Result (Unit {0}) Fault) (left : Opt
   pub read : IsErrOf result ReadFailed ↔ IsTrue read_failed
   pub write : IsErrOf result WriteFailed ↔ IsTrue write_failed
   pub done : OnOk result (IsDone task left old new)
-  pub cause : IfErr result (λ fault. IsDue fault task left read_failed)
+  pub cause : IfErr result (λ fault. IsFaultOfTask fault task left read_failed)
   pub unprinted : IfErr result (λ fault. fault ≢ WriteFailed → Keeps old new)
 
 -- The output that `text` makes of what a source had left is printed, or an error is returned before
 -- anything is printed or at a write. The bytes are counted from `start`.
-abbrev pub EndsBy : (List ℕ → List ℕ) → ℕ → Result (Unit {0}) Fault → Option (List ℕ)
+abbrev pub EndsByPrinting : (List ℕ → List ℕ) → ℕ → Result (Unit {0}) Fault → Option (List ℕ)
     → Option (List ℕ) → Option (List ℕ) → Type 0
-EndsBy text start (Ok _) left old new =
+EndsByPrinting text start (Ok _) left old new =
     IfSome left (λ bytes. (start + length bytes < 2 ^ 64) × Appends old new (text bytes))
-EndsBy text start (Err TooLong) left old new =
+EndsByPrinting text start (Err TooLong) left old new =
     IfSome left (λ bytes. 2 ^ 64 ≤ start + length bytes) × Keeps old new
-EndsBy text start (Err WrongLength) left old new = Keeps old new
-EndsBy text start (Err ReadFailed) left old new = Keeps old new
-EndsBy text start (Err NoMemory) left old new = Keeps old new
-EndsBy text start (Err WriteFailed) left old new = ⊤
-EndsBy text start (Err fault) left old new = ⊥
+EndsByPrinting text start (Err WrongLength) left old new = Keeps old new
+EndsByPrinting text start (Err ReadFailed) left old new = Keeps old new
+EndsByPrinting text start (Err NoMemory) left old new = Keeps old new
+EndsByPrinting text start (Err WriteFailed) left old new = ⊤
+EndsByPrinting text start (Err fault) left old new = ⊥
 
 -- The script that a source had left has this error, and nothing is printed.
-abbrev pub RefusesText : (List ℕ → Result (List (List ℕ)) Fault) → Fault → Option (List ℕ)
+abbrev pub RefusesScript : (List ℕ → Result (List (List ℕ)) Fault) → Fault → Option (List ℕ)
     → Option (List ℕ) → Option (List ℕ) → Type 0
-RefusesText digests fault left old new =
+RefusesScript digests fault left old new =
     IfSome left (λ text. digests text ≡ Err fault) × Keeps old new
 
 -- The digests of the script that a source had left are printed, one on each line, or the script has
 -- an error, or an error is returned before anything is printed or at a write.
-abbrev pub EndsByDigests : (List ℕ → Result (List (List ℕ)) Fault) → Result (Unit {0}) Fault
+abbrev pub EndsByPrintingDigests : (List ℕ → Result (List (List ℕ)) Fault) → Result (Unit {0}) Fault
     → Option (List ℕ) → Option (List ℕ) → Option (List ℕ) → Type 0
-EndsByDigests digests (Ok _) left old new =
+EndsByPrintingDigests digests (Ok _) left old new =
     IfSome left (λ text. IsOkAnd (digests text) (λ ds. Appends old new (flat_map line_of ds)))
-EndsByDigests digests (Err (WrongLine number)) left old new =
-    RefusesText digests (WrongLine number) left old new
-EndsByDigests digests (Err (NoSuchSlot number)) left old new =
-    RefusesText digests (NoSuchSlot number) left old new
-EndsByDigests digests (Err (LineTooLong number)) left old new =
-    RefusesText digests (LineTooLong number) left old new
-EndsByDigests digests (Err WrongLength) left old new = Keeps old new
-EndsByDigests digests (Err ReadFailed) left old new = Keeps old new
-EndsByDigests digests (Err NoMemory) left old new = Keeps old new
-EndsByDigests digests (Err WriteFailed) left old new = ⊤
-EndsByDigests digests (Err fault) left old new = ⊥
+EndsByPrintingDigests digests (Err (WrongLine number)) left old new =
+    RefusesScript digests (WrongLine number) left old new
+EndsByPrintingDigests digests (Err (NoSuchSlot number)) left old new =
+    RefusesScript digests (NoSuchSlot number) left old new
+EndsByPrintingDigests digests (Err (LineTooLong number)) left old new =
+    RefusesScript digests (LineTooLong number) left old new
+EndsByPrintingDigests digests (Err WrongLength) left old new = Keeps old new
+EndsByPrintingDigests digests (Err ReadFailed) left old new = Keeps old new
+EndsByPrintingDigests digests (Err NoMemory) left old new = Keeps old new
+EndsByPrintingDigests digests (Err WriteFailed) left old new = ⊤
+EndsByPrintingDigests digests (Err fault) left old new = ⊥

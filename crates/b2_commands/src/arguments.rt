@@ -4,7 +4,7 @@ ghost use Rattle.std.specs.Prelude.{◌≡◌, ◌≢◌, ◌<◌, ◌≤◌, �
 ghost use Rattle.std.specs.Prelude.{IsTrue, IfOk, IfErr, OnOk, IsOkUnless};
 ghost use Rattle.std.specs.String.{string_bytes};
 ghost use Rattle.blake2.specs.Views.{key_of};
-ghost use Rattle.b2_commands.specs.ArgumentTasks.{hex_value, message_value, text_value};
+ghost use Rattle.b2_commands.specs.ArgumentTasks.{hex_value, message_value, nonempty_text_value};
 ghost use Rattle.b2_commands.specs.ArgumentTasks.{IsReadingFault};
 
 use crate::fault::Fault;
@@ -23,11 +23,11 @@ pub(crate) enum Blake2bKind {
 }
 
 impl Blake2bKind {
-    ghost use Rattle.b2_commands.specs.Kinds.{blake2b_bytes};
+    ghost use Rattle.b2_commands.specs.Kinds.{blake2b_digest_bytes};
 
     /// Returns the number of bytes of the digests.
     pub(crate) fn size(self) -> usize
-        ensures bytes { result ≡ blake2b_bytes self }
+        ensures bytes { result ≡ blake2b_digest_bytes self }
         ensures some { 1 ≤ result }
         ensures most { result ≤ 64 }
     {
@@ -49,11 +49,11 @@ pub(crate) enum Blake2sKind {
 }
 
 impl Blake2sKind {
-    ghost use Rattle.b2_commands.specs.Kinds.{blake2s_bytes};
+    ghost use Rattle.b2_commands.specs.Kinds.{blake2s_digest_bytes};
 
     /// Returns the number of bytes of the digests.
     pub(crate) fn size(self) -> usize
-        ensures bytes { result ≡ blake2s_bytes self }
+        ensures bytes { result ≡ blake2s_digest_bytes self }
         ensures some { 1 ≤ result }
         ensures most { result ≤ 32 }
     {
@@ -115,8 +115,8 @@ pub(crate) struct Options {
 }
 
 impl Options {
-    ghost use Rattle.b2_commands.specs.ReadOptions.{given_of};
-    ghost use Rattle.b2_commands.specs.ArgumentTasks.{nothing_given, with_word, with_words};
+    ghost use Rattle.b2_commands.specs.ReadOptions.{given_options};
+    ghost use Rattle.b2_commands.specs.ArgumentTasks.{nothing_given, with_option, with_options};
     ghost use Rattle.b2_commands.specs.ArgumentTasks.{IsReadingFault};
 
     /// Reads the arguments NAME=HEX from left to right, and returns their bytes. The names are
@@ -131,11 +131,11 @@ impl Options {
         words: &[String],
     ) -> Result<Options, Fault>
         ensures read { IfOk result (λ options.
-            with_words takes_key nothing_given (map string_bytes words.now)
-            ≡ Ok (given_of options)) }
+            with_options takes_key nothing_given (map string_bytes words.now)
+            ≡ Ok (given_options options)) }
         ensures fault { IfErr result (λ fault.
             IsReadingFault fault
-            (with_words takes_key nothing_given (map string_bytes words.now))) }
+            (with_options takes_key nothing_given (map string_bytes words.now))) }
         ensures memory { result ≡ Err Fault.NoMemory → 0 < length words.now }
     {
         let mut options = Options {
@@ -153,9 +153,10 @@ impl Options {
     // those of `from_words`.
     fn take_word(&mut self, alloc: Global, takes_key: bool, word: &str) -> Result<(), Fault>
         ensures taken { OnOk result
-            (with_word takes_key (given_of self.old) word.now ≡ Ok (given_of self.new)) }
+            (with_option takes_key (given_options self.old) word.now
+            ≡ Ok (given_options self.new)) }
         ensures fault { IfErr result (λ fault.
-            IsReadingFault fault (with_word takes_key (given_of self.old) word.now)) }
+            IsReadingFault fault (with_option takes_key (given_options self.old) word.now)) }
     {
         let Some((name, digits)) = word.split_once('=') else {
             return Err(Fault::WrongWords);
@@ -170,7 +171,7 @@ impl Options {
                 digits.as_bytes(),
             )?),
             "persona-text" if self.persona.is_none() => {
-                self.persona = Some(text_of(alloc, digits.as_bytes())?)
+                self.persona = Some(copy_nonempty_text(alloc, digits.as_bytes())?)
             }
             _ => return Err(Fault::WrongWords),
         }
@@ -179,14 +180,14 @@ impl Options {
 
     /// Returns the key, or `None` if it is absent.
     pub(crate) fn key(&self) -> Option<&[u8]>
-        ensures { key_of result ≡ (given_of self.now).key }
+        ensures { key_of result ≡ (given_options self.now).key }
     {
         self.key.as_ref().map(|key| key.as_slice())
     }
 
     /// Returns the bytes of the key, or no bytes if it is absent.
     pub(crate) fn key_bytes(&self) -> &[u8]
-        ensures { result.now ≡ unwrap_or (given_of self.now).key [] }
+        ensures { result.now ≡ unwrap_or (given_options self.now).key [] }
     {
         match &self.key {
             Some(key) => key.as_slice(),
@@ -196,7 +197,7 @@ impl Options {
 
     /// Returns whether there is a key, and it has no bytes.
     pub(crate) fn has_empty_key(&self) -> bool
-        ensures { IsTrue result ↔ ((given_of self.now).key ≡ Some []) }
+        ensures { IsTrue result ↔ ((given_options self.now).key ≡ Some []) }
     {
         match &self.key {
             Some(key) => key.is_empty(),
@@ -206,7 +207,7 @@ impl Options {
 
     /// Returns the salt, or no bytes if it is absent.
     pub(crate) fn salt(&self) -> &[u8]
-        ensures { result.now ≡ unwrap_or (given_of self.now).salt [] }
+        ensures { result.now ≡ unwrap_or (given_options self.now).salt [] }
     {
         match &self.salt {
             Some(salt) => salt.as_slice(),
@@ -216,7 +217,7 @@ impl Options {
 
     /// Returns the persona, or no bytes if it is absent.
     pub(crate) fn persona(&self) -> &[u8]
-        ensures { result.now ≡ unwrap_or (given_of self.now).persona [] }
+        ensures { result.now ≡ unwrap_or (given_options self.now).persona [] }
     {
         match &self.persona {
             Some(persona) => persona.as_slice(),
@@ -226,7 +227,7 @@ impl Options {
 
     /// Returns whether key, salt and persona are all absent.
     pub(crate) fn are_empty(&self) -> bool
-        ensures { IsTrue result ↔ (given_of self.now ≡ nothing_given) }
+        ensures { IsTrue result ↔ (given_options self.now ≡ nothing_given) }
     {
         matches!((&self.key, &self.salt, &self.persona), (None, None, None))
     }
@@ -234,9 +235,9 @@ impl Options {
 
 // Returns the bytes of TEXT. The error is a `Fault`: `WrongWords` if it is empty, `NoMemory` if an
 // allocation fails.
-fn text_of(alloc: Global, text: &[u8]) -> Result<Vec<u8>, Fault>
-    ensures bytes { IfOk result (λ bytes. text_value text.now ≡ Ok bytes.items) }
-    ensures fault { IfErr result (λ fault. IsReadingFault fault (text_value text.now)) }
+fn copy_nonempty_text(alloc: Global, text: &[u8]) -> Result<Vec<u8>, Fault>
+    ensures bytes { IfOk result (λ bytes. nonempty_text_value text.now ≡ Ok bytes.items) }
+    ensures fault { IfErr result (λ fault. IsReadingFault fault (nonempty_text_value text.now)) }
 {
     match text {
         b"" => Err(Fault::WrongWords),

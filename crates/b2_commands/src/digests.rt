@@ -7,12 +7,13 @@ ghost use Rattle.blake2.specs.MacArguments.{key_count};
 ghost use Rattle.blake2.specs.States.{Fresh};
 ghost use Rattle.blake2.specs.Streams.{line_of};
 ghost use Rattle.blake2_compress.specs.Hash.{sequential};
-ghost use Rattle.blake2_state.specs.ConstructorArguments.{AdmitsState, given_count, digest_given};
+ghost use Rattle.blake2_state.specs.ConstructorArguments.{AdmitsState, counted_key_bytes};
+ghost use Rattle.blake2_state.specs.ConstructorArguments.{digest_given};
 ghost use Rattle.blake2_state.specs.ConstructorArguments.{parameters_given};
 ghost use Rattle.blake2_state.specs.Runs.{meaning, padded_digest};
-ghost use Rattle.b2_commands.specs.ReadOptions.{given_of};
-ghost use Rattle.b2_commands.specs.Tasks.{node_digest_with, IsRefusedBy};
-ghost use Rattle.b2_commands.specs.TaskEnds.{EndsBy, EndsTask};
+ghost use Rattle.b2_commands.specs.ReadOptions.{given_options};
+ghost use Rattle.b2_commands.specs.Tasks.{node_digest_with, IsRefusedByFamily};
+ghost use Rattle.b2_commands.specs.TaskEnds.{EndsByPrinting, EndsTask};
 ghost use Rattle.b2_commands.specs.Kinds.{kind_value};
 ghost use Rattle.b2_commands.specs.ReadTasks.{output_task};
 ghost use Rattle.b2_commands.specs.ArgumentTasks.Task.{to_steps};
@@ -45,7 +46,7 @@ pub(crate) fn hash<S: Source, K: Sink>(
 ) -> Result<(), Fault>
     requires source { S.failed source.old ≡ false }
     requires sink { K.failed sink.old ≡ false }
-    ensures { EndsTask (output_task output (kind_value kind) (given_of options.now)) result
+    ensures { EndsTask (output_task output (kind_value kind) (given_options options.now)) result
         (S.left source.old) (S.failed source.new) (K.failed sink.new)
         (K.held sink.old) (K.held sink.new) }
 {
@@ -60,11 +61,12 @@ pub(crate) fn hash<S: Source, K: Sink>(
 // else. The error is `Fault::WrongLength`, exactly if the hash function does not accept a length of
 // the options.
 fn start(kind: Kind, options: &Options) -> Result<Run, Fault>
-    ensures length { IsErr result ↔ IsRefusedBy (kind_value kind).family (given_of options.now) }
+    ensures length { IsErr result
+        ↔ IsRefusedByFamily (kind_value kind).family (given_options options.now) }
     ensures fault { IsOkUnless result Fault.WrongLength }
     ensures fresh { IfOk result (λ run. Fresh meaning (padded_digest (node_digest_with
-        (kind_value kind).family (kind_value kind).bytes (given_of options.now)))
-        (key_count (kind_value kind).family (given_of options.now).key) run) }
+        (kind_value kind).family (kind_value kind).bytes (given_options options.now)))
+        (key_count (kind_value kind).family (given_options options.now).key) run) }
 {
     if options.has_empty_key() {
         return Err(Fault::WrongLength);
@@ -88,7 +90,7 @@ fn start_with(kind: Kind, given: &StateParameters<'_>) -> Result<Run, InvalidLen
         ↔ ¬ AdmitsState (kind_value kind).family (parameters_given given.now sequential) }
     ensures fresh { IfOk result (λ run. Fresh meaning
         (padded_digest (digest_given (kind_value kind).family given.now sequential))
-        (given_count (kind_value kind).family given.now.key.now) run) }
+        (counted_key_bytes (kind_value kind).family given.now.key.now) run) }
 {
     match kind {
         Kind::Blake2b(_) => Run::blake2b(given),
@@ -115,7 +117,7 @@ fn sum<S: Source, K: Sink>(
     ensures ends { (digest : Bool → List ℕ → List ℕ) (n : ℕ)
         → Fresh meaning (padded_digest digest) n run
         → ((y : List ℕ) → length (digest false y) ≡ size)
-        → EndsBy (λ message. line_of (digest false message)) n result (S.left source.old)
+        → EndsByPrinting (λ message. line_of (digest false message)) n result (S.left source.old)
         (K.held sink.old) (K.held sink.new) }
 {
     absorb_stream(source, &mut run)?;
@@ -133,7 +135,7 @@ fn steps<S: Source, K: Sink>(
 ) -> Result<(), Fault>
     requires source { S.failed source.old ≡ false }
     requires sink { K.failed sink.old ≡ false }
-    ensures { EndsTask (to_steps (kind_value kind) (given_of options.now)) result
+    ensures { EndsTask (to_steps (kind_value kind) (given_options options.now)) result
         (S.left source.old) (S.failed source.new) (K.failed sink.new)
         (K.held sink.old) (K.held sink.new) }
 {

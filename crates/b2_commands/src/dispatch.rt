@@ -5,14 +5,14 @@ ghost use Rattle.std.specs.Prelude.{IsOkAnd, IfErr, OnOk};
 ghost use Rattle.std.specs.Io.KnownBytes.{Appends};
 ghost use Rattle.std.specs.Result.{IsErrOf};
 ghost use Rattle.std.specs.String.{string_bytes};
-ghost use Rattle.b2_commands.specs.Advice.{advice};
+ghost use Rattle.b2_commands.specs.Advice.{advice_for_words};
 ghost use Rattle.b2_commands.specs.ArgumentTasks.{task_of};
 ghost use Rattle.b2_commands.specs.Tasks.{IsDone};
-ghost use Rattle.b2_commands.specs.Faults.{IsTold, status_of, fault_line};
+ghost use Rattle.b2_commands.specs.Faults.{ReportsFault, exit_status_of, fault_line};
 
 use crate::digests::hash;
 use crate::fault::Fault;
-use crate::help::{HELP, VERSION, advise, print_text};
+use crate::help::{HELP, VERSION, print_advice, print_text};
 use crate::leaves::leaves;
 use crate::outputs::{derive, xof};
 use crate::task::Task;
@@ -36,7 +36,8 @@ pub fn run<S: Source, K: Sink>(alloc: Global, words: &[String], source: &mut S, 
         IsDone task (S.left source.old) (K.held sink.old) (K.held sink.new)) }
     // Another status: the sink accepted the line of an error that has its cause, and nothing else,
     // unless a write failed.
-    ensures told { result ≢ 0 → K.failed sink.new ≡ false → IsTold (map string_bytes words.now)
+    ensures told { result ≢ 0 → K.failed sink.new ≡ false
+        → ReportsFault (map string_bytes words.now)
         (S.left source.old) (S.left source.new) (S.failed source.new) result
         (K.held sink.old) (K.held sink.new) }
 {
@@ -65,13 +66,14 @@ pub fn run_with_notes<S: Source, K: Sink, N: Sink>(
         IsDone task (S.left source.old) (K.held sink.old) (K.held sink.new)) }
     // Another status: the sink accepted the line of an error that has its cause, and nothing else,
     // unless a write failed.
-    ensures told { result ≢ 0 → K.failed sink.new ≡ false → IsTold (map string_bytes words.now)
+    ensures told { result ≢ 0 → K.failed sink.new ≡ false
+        → ReportsFault (map string_bytes words.now)
         (S.left source.old) (S.left source.new) (S.failed source.new) result
         (K.held sink.old) (K.held sink.new) }
     // The notes accepted the advice for arguments that name no task, unless a write failed.
     ensures advised { result ≡ 2 → IsErr (task_of (map string_bytes words.now))
         → N.failed notes.new ≡ false → Appends (N.held notes.old) (N.held notes.new)
-        (advice (map string_bytes words.now)) }
+        (advice_for_words (map string_bytes words.now)) }
     ensures quiet { (result ≢ 2) ⊎ IsOk (task_of (map string_bytes words.now))
         → notes.new ≡ notes.old }
 {
@@ -105,7 +107,7 @@ pub fn run_with_notes<S: Source, K: Sink, N: Sink>(
         Err(fault) => {
             let status = fault.report(sink);
             if status == 2 {
-                advise(words, notes);
+                print_advice(words, notes);
             }
             status
         }
@@ -118,7 +120,7 @@ fn status_after<K: Sink>(end: Result<(), Fault>, sink: &mut K) -> u8
     requires { IsErrOf end Fault.WriteFailed ↔ IsTrue (K.failed sink.old) }
     ensures done { OnOk end ((result ≡ 0) × (sink.new ≡ sink.old)) }
     ensures printed { IfErr end (λ fault. K.failed sink.new ≡ false →
-        (result ≡ status_of fault)
+        (result ≡ exit_status_of fault)
         × Appends (K.held sink.old) (K.held sink.new) (fault_line fault)) }
     ensures failed { IsTrue (K.failed sink.old) → IsTrue (K.failed sink.new) }
     ensures unprinted { IsTrue (K.failed sink.new) → result ≡ 1 }

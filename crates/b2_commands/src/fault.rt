@@ -43,7 +43,8 @@ pub enum Fault {
 }
 
 impl Fault {
-    ghost use Rattle.b2_commands.specs.Faults.{status_of, line_number, fault_text, fault_line};
+    ghost use Rattle.b2_commands.specs.Faults.{exit_status_of, line_number, fault_message};
+    ghost use Rattle.b2_commands.specs.Faults.{fault_line};
 
     // Returns the line that the error prints, without its newline: there is room for that. The
     // error must not be `WriteFailed`, which prints no line.
@@ -77,7 +78,7 @@ impl Fault {
 
     // Returns what the error's line says of its cause, or nothing for `WriteFailed`.
     fn message_text(self) -> &'static str
-        ensures { result.now ≡ fault_text self }
+        ensures { result.now ≡ fault_message self }
     {
         match self {
             Fault::WrongWords => "wrong words",
@@ -95,7 +96,7 @@ impl Fault {
     // Returns the status of the error: 2 for the arguments and the input, 1 for the devices and
     // the memory.
     fn status(self) -> u8
-        ensures { result ≡ status_of self }
+        ensures { result ≡ exit_status_of self }
     {
         match self {
             Fault::WrongWords
@@ -115,7 +116,7 @@ impl Fault {
     pub fn report<K: Sink>(self, sink: &mut K) -> u8
         requires { (self ≡ WriteFailed) ↔ IsTrue (K.failed sink.old) }
         ensures printed { K.failed sink.new ≡ false →
-            (result ≡ status_of self)
+            (result ≡ exit_status_of self)
             × Appends (K.held sink.old) (K.held sink.new) (fault_line self) }
         ensures failed { IsTrue (K.failed sink.old) → IsTrue (K.failed sink.new) }
         ensures unprinted { IsTrue (K.failed sink.new) → result ≡ 1 }

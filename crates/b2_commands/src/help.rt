@@ -4,7 +4,7 @@ ghost use Rattle.std.specs.Prelude.{◌≡◌, ◌↔◌, false, map, IsTrue, On
 ghost use Rattle.std.specs.Io.KnownBytes.{Appends};
 ghost use Rattle.std.specs.Result.{IsErrOf};
 ghost use Rattle.std.specs.String.{string_bytes};
-ghost use Rattle.b2_commands.specs.Advice.{advice, named, usage_of};
+ghost use Rattle.b2_commands.specs.Advice.{advice_for_words, usage_advice, usage_of_command};
 
 use crate::fault::Fault;
 use blake2::streams::{Sink, write_whole};
@@ -54,10 +54,10 @@ pub(crate) fn print_text<K: Sink>(text: &[u8], sink: &mut K) -> Result<(), Fault
 
 /// Prints the usage of the command that the arguments name, or that they name none, and where to
 /// find help. The sink must not have failed before. If a write fails, nothing more is written.
-pub(crate) fn advise<N: Sink>(words: &[String], notes: &mut N)
+pub(crate) fn print_advice<N: Sink>(words: &[String], notes: &mut N)
     requires { N.failed notes.old ≡ false }
     ensures { N.failed notes.new ≡ false → Appends (N.held notes.old) (N.held notes.new)
-        (advice (map string_bytes words.now)) }
+        (advice_for_words (map string_bytes words.now)) }
 {
     let Ok(()) = write_whole(notes, usage_for(words)) else {
         return;
@@ -67,7 +67,7 @@ pub(crate) fn advise<N: Sink>(words: &[String], notes: &mut N)
 
 // Returns the line of the usage of the command, or that there is none.
 fn usage_for(words: &[String]) -> &'static [u8]
-    ensures { result.now ≡ named (map string_bytes words.now) }
+    ensures { result.now ≡ usage_advice (map string_bytes words.now) }
 {
     match words.split_first() {
         None => NO_COMMAND,
@@ -83,7 +83,7 @@ const HINT: &[u8] = b"Try 'b2 --help' for more information.\n";
 
 // Returns the usage of a command, as a line, or a line that says that there is none of this name.
 fn usage(command: &str) -> &'static [u8]
-    ensures { result.now ≡ usage_of command.now }
+    ensures { result.now ≡ usage_of_command command.now }
 {
     match command {
         "sum" => b"usage: b2 sum KIND [key=HEX] [salt=HEX] [persona=HEX | persona-text=TEXT]\n",

@@ -3,8 +3,9 @@
 ghost use Rattle.std.specs.Prelude.{◌≡◌, ◌↔◌, false, IsTrue, IfOk, IfErr, OnOk, IsOkUnless};
 ghost use Rattle.std.specs.Io.KnownBytes.{Appends};
 ghost use Rattle.std.specs.Result.{IsErrOf};
-ghost use Rattle.b2_commands.specs.LeafDigests.{digest_at, digest_lines, read_digests};
-ghost use Rattle.b2_commands.specs.ReadScripts.{IsLineFault};
+ghost use Rattle.b2_commands.specs.LeafDigests.{digest_of_numbered_line, digest_lines};
+ghost use Rattle.b2_commands.specs.LeafDigests.{read_digests};
+ghost use Rattle.b2_commands.specs.ReadScripts.{IsScriptReadFault};
 
 use crate::fault::Fault;
 use crate::print::print_bytes;
@@ -36,7 +37,7 @@ pub(crate) fn print_digests<K: Sink>(digests: &[u8], sink: &mut K) -> Result<(),
 /// with the number of the first wrong line, counted from 1, or `NoMemory` if an allocation fails.
 pub(crate) fn digests_of(alloc: Global, text: &[u8]) -> Result<Vec<u8>, Fault>
     ensures digests { IfOk result (λ digests. read_digests text.now ≡ Ok digests.items) }
-    ensures fault { IfErr result (λ fault. IsLineFault fault (read_digests text.now)) }
+    ensures fault { IfErr result (λ fault. IsScriptReadFault fault (read_digests text.now)) }
 {
     if text.is_empty() {
         return Err(Fault::WrongLine(1));
@@ -55,8 +56,9 @@ pub(crate) fn digests_of(alloc: Global, text: &[u8]) -> Result<Vec<u8>, Fault>
 // Returns the digest in the line of this number. The error is `Fault::WrongLine` with this number,
 // if the line is not 128 hexadecimal digits.
 fn digest_of(number: usize, line: &[u8]) -> Result<[u8; DIGEST_BYTES], Fault>
-    ensures digest { IfOk result (λ digest. digest_at number line.now ≡ Ok digest) }
-    ensures fault { IfErr result (λ fault. IsLineFault fault (digest_at number line.now)) }
+    ensures digest { IfOk result (λ digest. digest_of_numbered_line number line.now ≡ Ok digest) }
+    ensures fault { IfErr result
+        (λ fault. IsScriptReadFault fault (digest_of_numbered_line number line.now)) }
 {
     let mut digest = [0u8; DIGEST_BYTES];
     match hex::decode_to_slice(line, &mut digest) {

@@ -3,10 +3,10 @@
 ghost use Rattle.std.specs.Prelude.{◌≡◌, ◌↔◌, ◌⊎◌, ◌+◌, ◌*◌, ◌^◌, ◌<◌, ◌≤◌, length, take, false};
 ghost use Rattle.std.specs.Prelude.{unwrap_or, [], IfErr, IfOk};
 ghost use Rattle.std.specs.Result.{IsErrOf};
-ghost use Rattle.blake2_tree.specs.LeafRanges.{IsRange, range_digests};
+ghost use Rattle.blake2_tree.specs.LeafRanges.{IsLeafRange, range_digests};
 ghost use Rattle.blake2_tree.specs.NodeViews.{shared_parameters, node_digest};
 ghost use Rattle.b2_commands.specs.declared.fault.Fault.TheVariants.{WrongLength, NoMemory};
-ghost use Rattle.b2_commands.specs.ReadOptions.{given_of};
+ghost use Rattle.b2_commands.specs.ReadOptions.{given_options};
 ghost use Rattle.b2_commands.specs.ReadTasks.{part_task};
 ghost use Rattle.b2_commands.specs.TaskEnds.{EndsTask};
 ghost use Rattle.b2_commands.specs.Tasks.{tree_with};
@@ -53,13 +53,14 @@ pub(crate) fn leaves<S: Source, K: Sink>(
 // at most 16 bytes each. The error is a `Fault`: `WrongLength` if the bytes are not a range of a
 // message's leaves that begins and ends as the part does, `NoMemory` if an allocation fails.
 fn hash_part(alloc: Global, part: &Part, bytes: &[u8]) -> Result<Vec<u8>, Fault>
-    requires salt { length (unwrap_or (given_of part.now.options).salt []) ≤ 16 }
-    requires persona { length (unwrap_or (given_of part.now.options).persona []) ≤ 16 }
+    requires salt { length (unwrap_or (given_options part.now.options).salt []) ≤ 16 }
+    requires persona { length (unwrap_or (given_options part.now.options).persona []) ≤ 16 }
     ensures refused { IsErrOf result Fault.WrongLength
-        ↔ ¬ IsRange part.now.leaf_length part.now.first part.now.ends (length bytes.now) }
+        ↔ ¬ IsLeafRange part.now.leaf_length part.now.first part.now.ends (length bytes.now) }
     ensures fault { IfErr result (λ fault. (fault ≡ WrongLength) ⊎ (fault ≡ NoMemory)) }
     ensures digests { IfOk result (λ digests. digests.items ≡ range_digests
-        (tree_with part.now.leaf_length (given_of part.now.options)) part.now.first part.now.ends
+        (tree_with part.now.leaf_length (given_options part.now.options)) part.now.first
+        part.now.ends
         bytes.now) }
 {
     if !is_range(part.leaf_length, part.first, part.ends, bytes.len() as u64) {
@@ -84,7 +85,8 @@ fn hash_range(
     bytes: &[u8],
 ) -> Result<Vec<u8>, AllocError>
     requires leaf { (shared_parameters nodes.now).leaf_length ≡ part.now.leaf_length }
-    requires range { IsRange part.now.leaf_length part.now.first part.now.ends (length bytes.now) }
+    requires range { IsLeafRange part.now.leaf_length part.now.first part.now.ends
+        (length bytes.now) }
     ensures { IfOk result (λ digests. digests.items ≡ range_digests (shared_parameters nodes.now)
         part.now.first part.now.ends bytes.now) }
 {

@@ -5,8 +5,9 @@ ghost use Rattle.std.specs.String.{string_bytes};
 ghost use Rattle.blake2.specs.Family.{blake2b};
 ghost use Rattle.blake2_xof.specs.Xof.{unknown_length};
 ghost use Rattle.b2_commands.specs.Kinds.{family_value};
-ghost use Rattle.b2_commands.specs.ArgumentTasks.{length_value, output_family_of, IsReadingFault};
-ghost use Rattle.b2_commands.specs.ArgumentTasks.{after_raw, begins_raw};
+ghost use Rattle.b2_commands.specs.ArgumentTasks.{output_length_value, output_family_of};
+ghost use Rattle.b2_commands.specs.ArgumentTasks.{IsReadingFault};
+ghost use Rattle.b2_commands.specs.ArgumentTasks.{words_after_raw, begins_raw};
 
 use crate::arguments::{Options, copy_of};
 use crate::fault::Fault;
@@ -27,7 +28,7 @@ pub(crate) struct Extended {
 }
 
 impl Extended {
-    ghost use Rattle.b2_commands.specs.ReadTasks.{extended_task};
+    ghost use Rattle.b2_commands.specs.ReadTasks.{xof_task_value};
     ghost use Rattle.b2_commands.specs.ArgumentTasks.{xof_task};
 
     /// Reads the arguments KIND LENGTH [raw] [key=HEX] [salt=HEX] [persona=HEX] from left to right,
@@ -36,7 +37,7 @@ impl Extended {
     /// is wrong; `NoMemory` if an allocation for the bytes of an option fails.
     pub(crate) fn from_words(alloc: Global, words: &[String]) -> Result<Extended, Fault>
         ensures task { IfOk result (λ output.
-            xof_task (map string_bytes words.now) ≡ Ok (extended_task output)) }
+            xof_task (map string_bytes words.now) ≡ Ok (xof_task_value output)) }
         ensures fault { IfErr result (λ fault.
             IsReadingFault fault (xof_task (map string_bytes words.now))) }
         ensures memory { result ≡ Err Fault.NoMemory → 1 < length words.now }
@@ -108,7 +109,7 @@ impl Derivation {
 // Returns whether the first of the arguments is `raw`, and those after it, or all if it is not.
 fn split_raw(words: &[String]) -> (bool, &[String])
     ensures raw { result.0 ≡ begins_raw (map string_bytes words.now) }
-    ensures rest { map string_bytes result.1.now ≡ after_raw (map string_bytes words.now) }
+    ensures rest { map string_bytes result.1.now ≡ words_after_raw (map string_bytes words.now) }
     ensures fewer { length result.1.now ≤ length words.now }
 {
     let Some((word, rest)) = words.split_first() else {
@@ -139,7 +140,7 @@ fn family_of(kind: &str) -> Result<Family, Fault>
 // decimal digits without a leading zero. The error is `Fault::WrongWords`, if LENGTH is anything
 // else.
 fn length_of(family: Family, digits: &[u8]) -> Result<u64, Fault>
-    ensures value { result ≡ length_value (family_value family) digits.now }
+    ensures value { result ≡ output_length_value (family_value family) digits.now }
     ensures some { IfOk result (λ n. 1 ≤ n) }
     ensures known { IfOk result (λ n. n < unknown_length (family_value family)) }
 {

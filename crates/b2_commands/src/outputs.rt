@@ -4,10 +4,10 @@ ghost use Rattle.std.specs.Prelude.{◌≡◌, ◌↔◌, ◌<◌, ◌≤◌, fa
 ghost use Rattle.std.specs.Io.KnownBytes.{Appends};
 ghost use Rattle.std.specs.Result.{IsErrOf};
 ghost use Rattle.blake2.specs.Family.{blake2b};
-ghost use Rattle.blake2_xof.specs.Xof.{derived, unknown_length};
+ghost use Rattle.blake2_xof.specs.Xof.{derived_key, unknown_length};
 ghost use Rattle.b2_commands.specs.PrintedLines.{output_text};
 ghost use Rattle.b2_commands.specs.TaskEnds.{EndsTask};
-ghost use Rattle.b2_commands.specs.ReadTasks.{derivation_task, extended_task};
+ghost use Rattle.b2_commands.specs.ReadTasks.{derivation_task, xof_task_value};
 
 mod blake2xb;
 mod blake2xs;
@@ -34,7 +34,7 @@ pub(crate) fn xof<S: Source, K: Sink>(
 ) -> Result<(), Fault>
     requires source { S.failed source.old ≡ false }
     requires sink { K.failed sink.old ≡ false }
-    ensures { EndsTask (extended_task output.now) result (S.left source.old)
+    ensures { EndsTask (xof_task_value output.now) result (S.left source.old)
         (S.failed source.new) (K.failed sink.new) (K.held sink.old) (K.held sink.new) }
 {
     let (size, raw, options) = (output.length, output.raw, &output.options);
@@ -89,7 +89,7 @@ fn print_derived<K: Sink>(
     ensures write { IsErrOf result Fault.WriteFailed ↔ IsTrue (K.failed sink.new) }
     ensures fault { IsOkUnless result Fault.WriteFailed }
     ensures bytes { OnOk result (Appends (K.held sink.old) (K.held sink.new)
-        (output_text raw (derived blake2b key.now context.now size))) }
+        (output_text raw (derived_key blake2b key.now context.now size))) }
 {
     let mut state = State::init(size, key, b"", b"").unwrap();
     state.update(context);

@@ -8,9 +8,9 @@ ghost use Rattle.std.specs.Io.KnownBytes.{Appends};
 ghost use Rattle.blake2.specs.States.{Fresh};
 ghost use Rattle.blake2.specs.Streams.{line_of};
 ghost use Rattle.blake2_state.specs.Runs.{meaning, padded_digest};
-ghost use Rattle.b2_commands.specs.ReadScripts.{IsPlaced};
+ghost use Rattle.b2_commands.specs.ReadScripts.{LineNumberFitsUsize};
 ghost use Rattle.b2_commands.specs.Scripts.{fault_of_calls, script_digests};
-ghost use Rattle.b2_commands.specs.TaskEnds.{EndsByDigests};
+ghost use Rattle.b2_commands.specs.TaskEnds.{EndsByPrintingDigests};
 
 use crate::fault::Fault;
 use crate::input::read_all;
@@ -46,7 +46,7 @@ pub(crate) fn script<S: Source, K: Sink>(
     ensures ends { (digest : Bool → List ℕ → List ℕ) (n : ℕ)
         → Fresh meaning (padded_digest digest) n run
         → ((y : List ℕ) → length (digest false y) ≡ size)
-        → EndsByDigests (script_digests (digest false) n) result (S.left source.old)
+        → EndsByPrintingDigests (script_digests (digest false) n) result (S.left source.old)
         (K.held sink.old) (K.held sink.new) }
 {
     let text = read_all(alloc, source)?;
@@ -61,7 +61,7 @@ pub(crate) fn script<S: Source, K: Sink>(
 // Returns the program's error for an error of a list of calls. Call i, from 0, is in line i + 1,
 // which must fit a usize.
 fn fault_of(fault: ReplayFault) -> Fault
-    requires { IsPlaced fault }
+    requires { LineNumberFitsUsize fault }
     ensures { result ≡ fault_of_calls fault }
 {
     match fault {

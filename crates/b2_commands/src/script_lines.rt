@@ -2,8 +2,9 @@
 
 ghost use Rattle.std.specs.Prelude.{◌≡◌, map, IfOk, IfErr, ok_or};
 ghost use Rattle.b2_commands.specs.declared.fault.Fault.TheVariants.{WrongLine};
-ghost use Rattle.b2_commands.specs.Scripts.{slot_value, call_at, script_calls, update_fields};
-ghost use Rattle.b2_commands.specs.ReadScripts.{call_value, unplaced, IsLineFault};
+ghost use Rattle.b2_commands.specs.Scripts.{slot_value, call_of_numbered_line, script_calls};
+ghost use Rattle.b2_commands.specs.Scripts.{update_of_fields};
+ghost use Rattle.b2_commands.specs.ReadScripts.{call_value, without_address, IsScriptReadFault};
 
 use crate::arguments::message_of;
 use crate::fault::Fault;
@@ -32,8 +33,10 @@ impl ScriptCall {
     // error is a `Fault`: `WrongLine` with this number if the line is not a call, `NoMemory` if
     // an allocation for the bytes of HEX fails.
     fn from_line(alloc: Global, number: usize, line: &[u8]) -> Result<ScriptCall, Fault>
-        ensures call { IfOk result (λ call. call_at number line.now ≡ Ok (call_value call)) }
-        ensures fault { IfErr result (λ fault. IsLineFault fault (call_at number line.now)) }
+        ensures call { IfOk result
+            (λ call. call_of_numbered_line number line.now ≡ Ok (call_value call)) }
+        ensures fault { IfErr result
+            (λ fault. IsScriptReadFault fault (call_of_numbered_line number line.now)) }
     {
         let wrong = Fault::WrongLine(number);
         let Some((name, fields)) = split_once(line, b' ') else {
@@ -56,7 +59,7 @@ impl ScriptCall {
 
     // Returns the call, which borrows the bytes of an update.
     fn as_call(&self) -> Call<'_>
-        ensures { unplaced result ≡ call_value self.now }
+        ensures { without_address result ≡ call_value self.now }
     {
         match self {
             ScriptCall::Update(slot, bytes) => Call::Update(*slot, bytes.as_slice()),
@@ -73,9 +76,10 @@ impl ScriptCall {
 // allocation for the bytes of HEX fails.
 fn update_of(alloc: Global, number: usize, fields: &[u8]) -> Result<ScriptCall, Fault>
     ensures call { IfOk result
-        (λ call. ok_or (update_fields fields.now) (WrongLine number) ≡ Ok (call_value call)) }
+        (λ call. ok_or (update_of_fields fields.now) (WrongLine number) ≡ Ok (call_value call)) }
     ensures fault { IfErr result
-        (λ fault. IsLineFault fault (ok_or (update_fields fields.now) (WrongLine number))) }
+        (λ fault. IsScriptReadFault fault
+        (ok_or (update_of_fields fields.now) (WrongLine number))) }
 {
     let wrong = Fault::WrongLine(number);
     let Some((slot, digits)) = split_once(fields, b' ') else {
@@ -97,7 +101,7 @@ fn update_of(alloc: Global, number: usize, fields: &[u8]) -> Result<ScriptCall, 
 pub(crate) fn read_script(alloc: Global, text: &[u8]) -> Result<Vec<ScriptCall>, Fault>
     ensures calls { IfOk result
         (λ script. script_calls text.now ≡ Ok (map call_value script.items)) }
-    ensures fault { IfErr result (λ fault. IsLineFault fault (script_calls text.now)) }
+    ensures fault { IfErr result (λ fault. IsScriptReadFault fault (script_calls text.now)) }
 {
     let mut script = Vec::new(alloc);
     let mut rest = text;
@@ -113,7 +117,7 @@ pub(crate) fn read_script(alloc: Global, text: &[u8]) -> Result<Vec<ScriptCall>,
 /// Returns the calls of a script in their order. They borrow its bytes. The error is
 /// `AllocError`, if an allocation fails.
 pub(crate) fn calls_of(alloc: Global, script: &[ScriptCall]) -> Result<Vec<Call<'_>>, AllocError>
-    ensures { IfOk result (λ calls. map unplaced calls.items ≡ map call_value script.now) }
+    ensures { IfOk result (λ calls. map without_address calls.items ≡ map call_value script.now) }
 {
     let mut calls = Vec::new(alloc);
     for call in script {

@@ -8,11 +8,12 @@ ghost use Rattle.blake2.specs.Family.{blake2b, blake2s};
 ghost use Rattle.blake2.specs.MacArguments.{key_count};
 ghost use Rattle.blake2.specs.Views.{input_of, key_of};
 ghost use Rattle.blake2.specs.StepViews.{entry_of, entries_of};
-ghost use Rattle.b2_commands.specs.ReadOptions.{given_of};
-ghost use Rattle.b2_commands.specs.Tasks.{input_with, IsRefusedBy};
-ghost use Rattle.b2_commands.specs.TaskEnds.{EndsBy};
-ghost use Rattle.b2_commands.specs.Inputs.{IsKeyOfBytes, IsOfBytes};
-ghost use Rattle.b2_commands.specs.PrintedLines.{entry_line, words_line, transcript_lines};
+ghost use Rattle.b2_commands.specs.ReadOptions.{given_options};
+ghost use Rattle.b2_commands.specs.Tasks.{input_with, IsRefusedByFamily};
+ghost use Rattle.b2_commands.specs.TaskEnds.{EndsByPrinting};
+ghost use Rattle.b2_commands.specs.Inputs.{IsKeyOfBytes, ConsistsOfBytes};
+ghost use Rattle.b2_commands.specs.PrintedLines.{entry_line, parameter_words_line};
+ghost use Rattle.b2_commands.specs.PrintedLines.{transcript_lines};
 
 use crate::arguments::Options;
 use crate::fault::Fault;
@@ -33,7 +34,7 @@ use std::alloc::Global;
 /// persona; `ReadFailed` if a read returns an error; `TooLong` if the input, with the key's block
 /// if there is a key, has 2^64 bytes or more; `NoMemory` if an allocation fails; `WriteFailed` if
 /// a write fails. If it is not `WriteFailed`, nothing was printed.
-#[tactic(auto, unfolding(blake2::specs::MacArguments::IsRefused))]
+#[tactic(auto, unfolding(blake2::specs::MacArguments::HasRefusedLength))]
 pub(crate) fn steps_blake2b<S: Source, K: Sink>(
     alloc: Global,
     options: &Options,
@@ -44,12 +45,13 @@ pub(crate) fn steps_blake2b<S: Source, K: Sink>(
     requires size { output_size ≤ 64 }
     requires source { S.failed source.old ≡ false }
     requires sink { K.failed sink.old ≡ false }
-    ensures length { IsErrOf result Fault.WrongLength ↔ IsRefusedBy blake2b (given_of options.now) }
+    ensures length { IsErrOf result Fault.WrongLength
+        ↔ IsRefusedByFamily blake2b (given_options options.now) }
     ensures read { IsErrOf result Fault.ReadFailed ↔ IsTrue (S.failed source.new) }
     ensures write { IsErrOf result Fault.WriteFailed ↔ IsTrue (K.failed sink.new) }
-    ensures ends { EndsBy (λ message.
-        transcript_lines blake2b output_size (input_with (given_of options.now) message))
-        (key_count blake2b (given_of options.now).key) result (S.left source.old)
+    ensures ends { EndsByPrinting (λ message.
+        transcript_lines blake2b output_size (input_with (given_options options.now) message))
+        (key_count blake2b (given_options options.now).key) result (S.left source.old)
         (K.held sink.old) (K.held sink.new) }
 {
     // The lengths are checked before the input is read.
@@ -72,7 +74,7 @@ fn print_blake2b<K: Sink>(transcript: &Transcript<u64, 128>, sink: &mut K) -> Re
     ensures write { IsErrOf result Fault.WriteFailed ↔ IsTrue (K.failed sink.new) }
     ensures fault { IsOkUnless result Fault.WriteFailed }
     ensures lines { OnOk result (Appends (K.held sink.old) (K.held sink.new)
-        (words_line blake2b transcript.now.words
+        (parameter_words_line blake2b transcript.now.words
         ++ flat_map entry_line (entries_of transcript.now))) }
 {
     let mut line = Line::starting(b"w");
@@ -82,7 +84,7 @@ fn print_blake2b<K: Sink>(transcript: &Transcript<u64, 128>, sink: &mut K) -> Re
 }
 
 /// Does what `steps_blake2b` does, under BLAKE2s, with digests of at most 32 bytes.
-#[tactic(auto, unfolding(blake2::specs::MacArguments::IsRefused))]
+#[tactic(auto, unfolding(blake2::specs::MacArguments::HasRefusedLength))]
 pub(crate) fn steps_blake2s<S: Source, K: Sink>(
     alloc: Global,
     options: &Options,
@@ -93,12 +95,13 @@ pub(crate) fn steps_blake2s<S: Source, K: Sink>(
     requires size { output_size ≤ 32 }
     requires source { S.failed source.old ≡ false }
     requires sink { K.failed sink.old ≡ false }
-    ensures length { IsErrOf result Fault.WrongLength ↔ IsRefusedBy blake2s (given_of options.now) }
+    ensures length { IsErrOf result Fault.WrongLength
+        ↔ IsRefusedByFamily blake2s (given_options options.now) }
     ensures read { IsErrOf result Fault.ReadFailed ↔ IsTrue (S.failed source.new) }
     ensures write { IsErrOf result Fault.WriteFailed ↔ IsTrue (K.failed sink.new) }
-    ensures ends { EndsBy (λ message.
-        transcript_lines blake2s output_size (input_with (given_of options.now) message))
-        (key_count blake2s (given_of options.now).key) result (S.left source.old)
+    ensures ends { EndsByPrinting (λ message.
+        transcript_lines blake2s output_size (input_with (given_options options.now) message))
+        (key_count blake2s (given_options options.now).key) result (S.left source.old)
         (K.held sink.old) (K.held sink.new) }
 {
     // The lengths are checked before the input is read.
@@ -121,7 +124,7 @@ fn print_blake2s<K: Sink>(transcript: &Transcript<u32, 64>, sink: &mut K) -> Res
     ensures write { IsErrOf result Fault.WriteFailed ↔ IsTrue (K.failed sink.new) }
     ensures fault { IsOkUnless result Fault.WriteFailed }
     ensures lines { OnOk result (Appends (K.held sink.old) (K.held sink.new)
-        (words_line blake2s transcript.now.words
+        (parameter_words_line blake2s transcript.now.words
         ++ flat_map entry_line (entries_of transcript.now))) }
 {
     let mut line = Line::starting(b"w");
@@ -132,8 +135,8 @@ fn print_blake2s<K: Sink>(transcript: &Transcript<u32, 64>, sink: &mut K) -> Res
 
 // Returns the input of this message, with the options' key, salt and persona.
 fn input_under<'a>(options: &'a Options, message: &'a [u8]) -> Input<'a>
-    ensures input { input_of result ≡ input_with (given_of options.now) message.now }
-    ensures bytes { IsOfBytes (input_of result) }
+    ensures input { input_of result ≡ input_with (given_options options.now) message.now }
+    ensures bytes { ConsistsOfBytes (input_of result) }
 {
     let input = Input {
         salt: options.salt(),

@@ -45,7 +45,7 @@ pub(crate) enum Task {
 
 impl Task {
     ghost use Rattle.b2_commands.specs.ReadTasks.{output_task, task_value};
-    ghost use Rattle.b2_commands.specs.ArgumentTasks.{given_task, without_more_words};
+    ghost use Rattle.b2_commands.specs.ArgumentTasks.{kind_and_options_task, task_if_no_more_words};
 
     /// Reads the arguments from left to right, the command, its KIND and then the rest, and
     /// returns the task. The error is a `Fault`, that of the first bad argument: `WrongWords` if
@@ -71,8 +71,8 @@ impl Task {
             "root" => return Ok(Task::Tree(Root::from_words(alloc, Over::Leaves, words)?)),
             "xof" => return Ok(Task::Xof(Extended::from_words(alloc, words)?)),
             "derive" => return Ok(Task::Derive(Derivation::from_words(alloc, words)?)),
-            "--help" | "-h" | "help" => return Self::alone(Task::Help, words),
-            "--version" => return Self::alone(Task::Version, words),
+            "--help" | "-h" | "help" => return Self::require_no_more_words(Task::Help, words),
+            "--version" => return Self::require_no_more_words(Task::Version, words),
             _ => return Err(Fault::WrongWords),
         };
         let Some((kind, words)) = words.split_first() else {
@@ -85,13 +85,13 @@ impl Task {
 
     // Returns the task, which no argument may follow. The error is `Fault::WrongWords`, if one
     // does.
-    fn alone(task: Task, words: &[String]) -> Result<Task, Fault>
+    fn require_no_more_words(task: Task, words: &[String]) -> Result<Task, Fault>
         ensures task { IfOk result (λ same.
-            without_more_words (task_value task) (map string_bytes words.now)
+            task_if_no_more_words (task_value task) (map string_bytes words.now)
             ≡ Ok (task_value same)) }
         ensures fault { IfErr result (λ fault.
             IsReadingFault fault
-            (without_more_words (task_value task) (map string_bytes words.now))) }
+            (task_if_no_more_words (task_value task) (map string_bytes words.now))) }
         ensures memory { result ≢ Err Fault.NoMemory }
     {
         match words.split_first() {

@@ -6,14 +6,14 @@ ghost use Rattle.std.specs.Prelude.{IsTrue, IfErr, IfSome, OnOk};
 ghost use Rattle.std.specs.Io.KnownBytes.{Appends, Keeps};
 ghost use Rattle.std.specs.Result.{IsErrOf};
 ghost use Rattle.blake2.specs.Streams.{line_of};
-ghost use Rattle.blake2_tree.specs.TreeHashers.{count, Took};
+ghost use Rattle.blake2_tree.specs.TreeHashers.{count, HasAbsorbed};
 ghost use Rattle.b2_commands.specs.declared.fault.Fault.TheVariants.{ReadFailed, TooLong};
 ghost use Rattle.b2_commands.specs.declared.fault.Fault.TheVariants.{WriteFailed};
 ghost use Rattle.b2_commands.specs.TaskEnds.{EndsTask};
 ghost use Rattle.b2_commands.specs.ArgumentTasks.{blake2b_of};
 ghost use Rattle.b2_commands.specs.ArgumentTasks.Task.{to_root, to_tree};
 ghost use Rattle.b2_commands.specs.Kinds.{blake2b_value};
-ghost use Rattle.b2_commands.specs.ReadOptions.{given_of};
+ghost use Rattle.b2_commands.specs.ReadOptions.{given_options};
 ghost use Rattle.b2_commands.specs.ReadTasks.{root_task};
 ghost use Rattle.b2_commands.specs.Tasks.{IsRefusedByTree, root_with};
 ghost use Rattle.b2_commands.specs.TreeFaults.{IsFaultOfTree};
@@ -29,8 +29,8 @@ use blake2_tree::{LABEL_BYTES, MESSAGE_LIMIT, TreeHasher, best_piece_length, roo
 use std::alloc::Global;
 
 /// Prints the root as a line: of all that the source returns, or over the digests in its lines.
-/// Neither device may have failed before. The errors are those of `of_message` and of
-/// `over_leaves`.
+/// Neither device may have failed before. The errors are those of `print_message_root` and of
+/// `print_root_over_digests`.
 pub(crate) fn tree<S: Source, K: Sink>(
     alloc: Global,
     root: &Root,
@@ -43,8 +43,8 @@ pub(crate) fn tree<S: Source, K: Sink>(
         (S.failed source.new) (K.failed sink.new) (K.held sink.old) (K.held sink.new) }
 {
     match root.over {
-        Over::Message => of_message(alloc, root, source, sink),
-        Over::Leaves => over_leaves(alloc, root, source, sink),
+        Over::Message => print_message_root(alloc, root, source, sink),
+        Over::Leaves => print_root_over_digests(alloc, root, source, sink),
     }
 }
 
@@ -55,7 +55,7 @@ pub(crate) fn tree<S: Source, K: Sink>(
 // `ReadFailed` if a read returns an error; `TooLong` if the input has 2^58 bytes or more;
 // `NoMemory` if the allocation fails; `WriteFailed` if a write fails. If it is not
 // `WriteFailed`, nothing was printed.
-fn of_message<S: Source, K: Sink>(
+fn print_message_root<S: Source, K: Sink>(
     alloc: Global,
     root: &Root,
     source: &mut S,
@@ -64,7 +64,8 @@ fn of_message<S: Source, K: Sink>(
     requires source { S.failed source.old ≡ false }
     requires sink { K.failed sink.old ≡ false }
     ensures { EndsTask
-        (to_tree (blake2b_value root.now.kind) root.now.leaf_length (given_of root.now.options))
+        (to_tree (blake2b_value root.now.kind) root.now.leaf_length
+        (given_options root.now.options))
         result (S.left source.old) (S.failed source.new) (K.failed sink.new)
         (K.held sink.old) (K.held sink.new) }
 {
@@ -77,7 +78,7 @@ fn of_message<S: Source, K: Sink>(
 }
 
 // Prints the root of `N` bytes, at most 64, with leaves of `leaf_length` bytes, at least 1. The
-// errors are those of `of_message`.
+// errors are those of `print_message_root`.
 fn print_root<S: Source, K: Sink, const N: usize>(
     alloc: Global,
     leaf_length: u32,
@@ -89,12 +90,13 @@ fn print_root<S: Source, K: Sink, const N: usize>(
     requires leaf { 1 ≤ leaf_length }
     requires source { S.failed source.old ≡ false }
     requires sink { K.failed sink.old ≡ false }
-    ensures length { IsErrOf result Fault.WrongLength ↔ IsRefusedByTree (given_of options.now) }
+    ensures length { IsErrOf result Fault.WrongLength
+        ↔ IsRefusedByTree (given_options options.now) }
     ensures read { IsErrOf result Fault.ReadFailed ↔ IsTrue (S.failed source.new) }
     ensures write { IsErrOf result Fault.WriteFailed ↔ IsTrue (K.failed sink.new) }
     ensures root { OnOk result (IfSome (S.left source.old) (λ message. (length message < 2 ^ 58)
         × Appends (K.held sink.old) (K.held sink.new) (line_of
-        (root_with N leaf_length (given_of options.now) message)))) }
+        (root_with N leaf_length (given_options options.now) message)))) }
     ensures too_long { IsErrOf result Fault.TooLong
         → IfSome (S.left source.old) (λ message. 2 ^ 58 ≤ length message) }
     ensures fault { IfErr result IsFaultOfTree }
@@ -127,7 +129,7 @@ fn absorb_source<S: Source, const N: usize>(
     ensures read { IsErrOf result Fault.ReadFailed ↔ IsTrue (S.failed source.new) }
     ensures fault { IfErr result (λ fault. (fault ≡ ReadFailed) ⊎ (fault ≡ TooLong)) }
     ensures whole { OnOk result (IfSome (S.left source.old) (λ bytes.
-        Took hasher.old bytes hasher.new)) }
+        HasAbsorbed hasher.old bytes hasher.new)) }
     ensures too_long { IsErrOf result Fault.TooLong → IfSome (S.left source.old) (λ bytes.
         2 ^ 58 ≤ count hasher.old + length bytes) }
 {
@@ -150,7 +152,7 @@ fn absorb_source<S: Source, const N: usize>(
 // `ReadFailed` if a read returns an error; `WrongLine` if there is no line, or one is not a digest;
 // `NoMemory` if an allocation fails; `WriteFailed` if a write fails. If it is not `WriteFailed`,
 // nothing was printed.
-fn over_leaves<S: Source, K: Sink>(
+fn print_root_over_digests<S: Source, K: Sink>(
     alloc: Global,
     root: &Root,
     source: &mut S,
@@ -159,7 +161,8 @@ fn over_leaves<S: Source, K: Sink>(
     requires source { S.failed source.old ≡ false }
     requires sink { K.failed sink.old ≡ false }
     ensures { EndsTask
-        (to_root (blake2b_value root.now.kind) root.now.leaf_length (given_of root.now.options))
+        (to_root (blake2b_value root.now.kind) root.now.leaf_length
+        (given_options root.now.options))
         result (S.left source.old) (S.failed source.new) (K.failed sink.new)
         (K.held sink.old) (K.held sink.new) }
 {
@@ -172,7 +175,7 @@ fn over_leaves<S: Source, K: Sink>(
 }
 
 // Prints the root of `N` bytes, at most 64, over the digests of leaves of `leaf_length` bytes, at
-// least 1. The errors are those of `over_leaves`.
+// least 1. The errors are those of `print_root_over_digests`.
 fn print_root_over<S: Source, K: Sink, const N: usize>(
     alloc: Global,
     leaf_length: u32,
@@ -184,7 +187,7 @@ fn print_root_over<S: Source, K: Sink, const N: usize>(
     requires leaf { 1 ≤ leaf_length }
     requires source { S.failed source.old ≡ false }
     requires sink { K.failed sink.old ≡ false }
-    ensures { EndsTask (to_root (blake2b_of N) leaf_length (given_of options.now)) result
+    ensures { EndsTask (to_root (blake2b_of N) leaf_length (given_options options.now)) result
         (S.left source.old) (S.failed source.new) (K.failed sink.new)
         (K.held sink.old) (K.held sink.new) }
 {

@@ -2,7 +2,7 @@
 
 ghost use Rattle.std.specs.Prelude.{◌≡◌, ◌<◌, ◌≤◌, length, map, IfOk, IfErr};
 ghost use Rattle.std.specs.String.{string_bytes};
-ghost use Rattle.b2_commands.specs.ArgumentTasks.{leaf_value, IsReadingFault};
+ghost use Rattle.b2_commands.specs.ArgumentTasks.{leaf_length_value, IsReadingFault};
 
 use crate::arguments::{Blake2bKind, Kind, Options};
 use crate::fault::Fault;
@@ -29,17 +29,17 @@ pub(crate) struct Root {
 }
 
 impl Root {
-    ghost use Rattle.b2_commands.specs.ReadTasks.{root_task, task_over};
+    ghost use Rattle.b2_commands.specs.ReadTasks.{root_task, root_task_over};
     ghost use Rattle.b2_commands.specs.ArgumentTasks.{tree_task};
 
     /// Reads the arguments KIND LEAF [salt=HEX] [persona=HEX] from left to right, and returns the
     /// root. KIND must be one of BLAKE2b. The errors are those of `Task::from_words`.
     pub(crate) fn from_words(alloc: Global, over: Over, words: &[String]) -> Result<Root, Fault>
         ensures task { IfOk result (λ root.
-            tree_task (task_over over) (map string_bytes words.now) ≡ Ok (root_task root)) }
+            tree_task (root_task_over over) (map string_bytes words.now) ≡ Ok (root_task root)) }
         ensures over { IfOk result (λ root. root.over ≡ over) }
         ensures fault { IfErr result (λ fault.
-            IsReadingFault fault (tree_task (task_over over) (map string_bytes words.now))) }
+            IsReadingFault fault (tree_task (root_task_over over) (map string_bytes words.now))) }
         ensures memory { result ≡ Err Fault.NoMemory → 1 < length words.now }
     {
         let Some((kind, words)) = words.split_first() else {
@@ -75,7 +75,8 @@ pub(crate) struct Part {
 
 impl Part {
     ghost use Rattle.b2_commands.specs.ReadTasks.{part_task};
-    ghost use Rattle.b2_commands.specs.ArgumentTasks.{ends_value, index_value, leaves_task};
+    ghost use Rattle.b2_commands.specs.ArgumentTasks.{ends_message_value, leaf_index_value};
+    ghost use Rattle.b2_commands.specs.ArgumentTasks.{leaves_task};
 
     /// Reads the arguments LEAF FIRST more|last [salt=HEX] [persona=HEX] from left to right, and
     /// returns the part. The errors are those of `Task::from_words`.
@@ -110,7 +111,7 @@ impl Part {
     // Returns the index that FIRST names, in 1 to 18 decimal digits without a leading zero. The
     // error is `Fault::WrongWords`, if FIRST is anything else.
     fn index_of(digits: &[u8]) -> Result<u64, Fault>
-        ensures { result ≡ index_value digits.now }
+        ensures { result ≡ leaf_index_value digits.now }
     {
         match number_of(digits, 18) {
             Some(number) => Ok(number as u64),
@@ -121,7 +122,7 @@ impl Part {
     // Returns whether the part ends its message: `last` says so, and `more` that it does not. The
     // error is `Fault::WrongWords`, if the argument is anything else.
     fn ends_of(word: &str) -> Result<bool, Fault>
-        ensures { result ≡ ends_value word.now }
+        ensures { result ≡ ends_message_value word.now }
     {
         match word {
             "last" => Ok(true),
@@ -134,7 +135,7 @@ impl Part {
 // Returns the number of bytes of a leaf that LEAF names: 1 to 2^32 - 1 in decimal digits
 // without a leading zero. The error is `Fault::WrongWords`, if LEAF is anything else.
 fn leaf_of(digits: &[u8]) -> Result<u32, Fault>
-    ensures value { result ≡ leaf_value digits.now }
+    ensures value { result ≡ leaf_length_value digits.now }
     ensures some { IfOk result (λ n. 1 ≤ n) }
 {
     match number_of(digits, 10) {

@@ -13,7 +13,7 @@ ghost use Rattle.b2_commands.specs.Tasks.{input_with};
 ghost use Rattle.b2_commands.specs.TaskEnds.{EndsTask};
 ghost use Rattle.b2_commands.specs.PrintedLines.{step_line};
 ghost use Rattle.b2_commands.specs.ReadTasks.{comparison_task};
-ghost use Rattle.b2_commands.specs.PrintedWitnesses.{PrintsWitness};
+ghost use Rattle.b2_commands.specs.PrintedWitnesses.{PrintsWitnessOrNone};
 
 use crate::fault::Fault;
 use crate::print::Line;
@@ -57,7 +57,7 @@ fn witness_blake2b<K: Sink>(
     requires sink { K.failed sink.old ≡ false }
     ensures write { IsErrOf result Fault.WriteFailed ↔ IsTrue (K.failed sink.new) }
     ensures fault { IsOkUnless result Fault.WriteFailed }
-    ensures lines { OnOk result (PrintsWitness blake2b output_size
+    ensures lines { OnOk result (PrintsWitnessOrNone blake2b output_size
         (input_with nothing_given a.now) (input_with nothing_given b.now)
         (K.held sink.old) (K.held sink.new)) }
 {
@@ -81,7 +81,7 @@ fn witness_blake2s<K: Sink>(
     requires sink { K.failed sink.old ≡ false }
     ensures write { IsErrOf result Fault.WriteFailed ↔ IsTrue (K.failed sink.new) }
     ensures fault { IsOkUnless result Fault.WriteFailed }
-    ensures lines { OnOk result (PrintsWitness blake2s output_size
+    ensures lines { OnOk result (PrintsWitnessOrNone blake2s output_size
         (input_with nothing_given a.now) (input_with nothing_given b.now)
         (K.held sink.old) (K.held sink.new)) }
 {

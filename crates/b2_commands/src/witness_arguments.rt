@@ -28,16 +28,16 @@ pub(crate) struct Compared {
 }
 
 impl Compared {
-    ghost use Rattle.b2_commands.specs.ReadTasks.{compared_value};
-    ghost use Rattle.b2_commands.specs.ArgumentTasks.{compared_kind_of};
+    ghost use Rattle.b2_commands.specs.ReadTasks.{compared_kind};
+    ghost use Rattle.b2_commands.specs.ArgumentTasks.{witness_kind_of};
 
     // Returns the digests that KIND names: `b0` and `s0` of no bytes, `b8` and `s8` of one byte,
     // and those of the other commands. The error is `Fault::WrongWords`, if KIND is not one of
     // these.
     fn from_word(word: &str) -> Result<Compared, Fault>
         ensures kind { IfOk result (λ compared.
-            compared_kind_of word.now ≡ Ok (compared_value compared)) }
-        ensures fault { IfErr result (λ fault. compared_kind_of word.now ≡ Err fault) }
+            witness_kind_of word.now ≡ Ok (compared_kind compared)) }
+        ensures fault { IfErr result (λ fault. witness_kind_of word.now ≡ Err fault) }
         ensures memory { result ≢ Err Fault.NoMemory }
     {
         let (family, bytes) = match word {

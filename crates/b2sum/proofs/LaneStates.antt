@@ -5,12 +5,13 @@ use Rattle.std.proofs.lemmas.Bool.{cases_lt}
 use Rattle.std.proofs.lemmas.List.{append-nil, get_or_default, length-append, length-drop, length-take}
 use Rattle.std.proofs.lemmas.List.{take-append-drop, take_all, take_at}
 use Rattle.b2sum.specs.declared.lanes.Lane.{Lane}
-use Rattle.b2sum.specs.LaneStates.{AreBegun, IsAt, IsDone, IsInText, Takes, piece_after, place_after}
+use Rattle.b2sum.specs.LaneStates.{TextsAreDoneOrInLanes, StateIsAtOffset, DigestIsWritten}
+use Rattle.b2sum.specs.LaneStates.{LaneIsInText, StateAbsorbs, next_piece_of_lane, lane_after_piece}
 
 -- The first bytes of a text, and at most so many after them.
-joined : (at most : ℕ) (text : List ℕ) → at ≤ length text
+take-append_take_drop : (at most : ℕ) (text : List ℕ) → at ≤ length text
     → take at text ++ take most (drop at text) ≡ take (at + length (take most (drop at text))) text
-joined at most text le =
+take-append_take_drop at most text le =
     let piece : List ℕ = take most (drop at text) in
     let rest : List ℕ = drop most (drop at text) in
     let whole : (take at text ++ piece) ++ rest ≡ text =
@@ -25,13 +26,16 @@ joined at most text le =
     )))
 
 -- The state of a lane that absorbs at most so many bytes more of its text is there.
-pub at_after : {S : Type 0} (IsReady : S → Type 0) (size count : S → ℕ) (limit : ℕ)
+pub state_at_offset-after_absorbing : {S : Type 0} (IsReady : S → Type 0) (size count : S → ℕ)
+    (limit : ℕ)
     (future : S → List ℕ → List ℕ) (n : ℕ) (digest : List ℕ → List ℕ) (at most : ℕ)
     (text : List ℕ) (old new : S) → at ≤ length text
-    → IsAt IsReady size count limit future n digest at text old
-    → Takes IsReady size count future old (take most (drop at text)) new
-    → IsAt IsReady size count limit future n digest (at + length (take most (drop at text))) text new
-at_after IsReady size count limit future n digest at most text old new le is takes =
+    → StateIsAtOffset IsReady size count limit future n digest at text old
+    → StateAbsorbs IsReady size count future old (take most (drop at text)) new
+    → StateIsAtOffset IsReady size count limit future n digest
+    (at + length (take most (drop at text))) text new
+state_at_offset-after_absorbing IsReady size count limit future n digest at most text old new le is
+    takes =
     let piece : List ℕ = take most (drop at text) in
     record {
       ready = takes.ready;
@@ -47,22 +51,23 @@ at_after IsReady size count limit future n digest at most text old new le is tak
       );
       absorbed = λ y. takes.absorbed y ∙ is.absorbed (piece ++ y)
           ∙ ap digest (sym (append_assoc (take at text) piece y)
-          ∙ ap (λ (l : List ℕ). l ++ y) (joined at most text le));
+          ∙ ap (λ (l : List ℕ). l ++ y) (take-append_take_drop at most text le));
     }
 
 -- The digest of a state whose text has ended is that of the text.
-pub done_at_end : {S : Type 0} (IsReady : S → Type 0) (size count : S → ℕ) (limit : ℕ)
+pub digest_written-at_text_end : {S : Type 0} (IsReady : S → Type 0) (size count : S → ℕ)
+    (limit : ℕ)
     (future : S → List ℕ → List ℕ) (n : ℕ) (digest : List ℕ → List ℕ) (at : ℕ) (text place : List ℕ)
-    (s : S) → IsAt IsReady size count limit future n digest at text s → length text ≤ at
-    → take (size s) place ≡ future s [] → IsDone digest n text place
-done_at_end IsReady size count limit future n digest at text place s is long here =
+    (s : S) → StateIsAtOffset IsReady size count limit future n digest at text s → length text ≤ at
+    → take (size s) place ≡ future s [] → DigestIsWritten digest n text place
+digest_written-at_text_end IsReady size count limit future n digest at text place s is long here =
     ap (λ (k : ℕ). take k place) (sym is.has_size) ∙ here ∙ is.absorbed []
     ∙ ap digest (append-nil (take at text) ∙ take_all at text long)
 
 -- ---- lanes
 
-pub same_or_other : (a b : ℕ) → (a ≡ b) ⊎ (a ≢ b)
-same_or_other a b = elim (cases_lt a b) [
+pub equal_or_not_equal : (a b : ℕ) → (a ≡ b) ⊎ (a ≢ b)
+equal_or_not_equal a b = elim (cases_lt a b) [
   | inl lt ↦ inr (λ e. absurd (omega (arith, lt, e)))
   | inr le ↦ elim (cases_lt b a) [
     | inl gt ↦ inr (λ e. absurd (omega (arith, gt, e)))
@@ -72,24 +77,27 @@ same_or_other a b = elim (cases_lt a b) [
 
 -- If the text of a lane is done now, and no other place has changed, each text is still done or
 -- begun, even if that lane is in another text then.
-pub begun_after : (digest : List ℕ → List ℕ) (n : ℕ) (texts out new : List (List ℕ))
+pub texts_done_or_in_lanes-after_finish : (digest : List ℕ → List ℕ) (n : ℕ)
+    (texts out new : List (List ℕ))
     (lanes after : List Lane) (low high least most lane : ℕ) (l : Lane) → lane < length lanes
-    → AreBegun digest n texts out lanes low high most
-    → IsDone digest n (slice_index_or texts (slice_index_or lanes lane l).text [])
+    → TextsAreDoneOrInLanes digest n texts out lanes low high most
+    → DigestIsWritten digest n (slice_index_or texts (slice_index_or lanes lane l).text [])
     (slice_index_or new (slice_index_or lanes lane l).text [])
     → ((t : ℕ) → t ≢ (slice_index_or lanes lane l).text
     → slice_index_or new t [] ≡ slice_index_or out t [])
     → ((j : ℕ) (x : Lane) → low ≤ j → j < high → j ≢ lane
     → (least ≤ j) × ((slice_index_or after j x).text ≡ (slice_index_or lanes j x).text))
-    → AreBegun digest n texts new after least high most
-begun_after digest n texts out new lanes after low high least most lane l long before done others keeps t lt =
+    → TextsAreDoneOrInLanes digest n texts new after least high most
+texts_done_or_in_lanes-after_finish digest n texts out new lanes after low high least most lane l
+    long before done others keeps t lt =
     let here : ℕ = (slice_index_or lanes lane l).text in
-    let Done : ℕ → List ℕ → Type 0 = λ k p. IsDone digest n (slice_index_or texts k []) p in
-    elim (same_or_other t here) [
+    let Done : ℕ → List ℕ
+    → Type 0 = λ k p. DigestIsWritten digest n (slice_index_or texts k []) p in
+    elim (equal_or_not_equal t here) [
       | inl same ↦ inl (subst (λ (k : ℕ). Done k (slice_index_or new k [])) (sym same) done)
       | inr other ↦ elim (before t lt) [
         | inl is ↦ inl (subst (Done t) (sym (others t other)) is)
-        | inr is ↦ elim (same_or_other is.0 lane) [
+        | inr is ↦ elim (equal_or_not_equal is.0 lane) [
           | inl same ↦ absurd (other (sym is.4
               ∙ ap (λ (k : ℕ). (slice_index_or lanes k is.1).text) same
               ∙ ap (λ (x : Lane). x.text) (get_or_default lanes lane is.1 l long)))

@@ -5,16 +5,18 @@ use Rattle.b2sum.specs.declared.disk.Reader.{Reader}
 use Rattle.b2sum.specs.declared.disk.Reader.TheVariants.{File, Input}
 
 -- The bytes that are left of an open file, or of standard input.
-abbrev pub rest_of : {F I : Type 0} → (F → Option (List ℕ)) → (I → Option (List ℕ)) → Reader F I
+abbrev pub bytes_left_of_reader : {F I : Type 0} → (F → Option (List ℕ)) → (I → Option (List ℕ))
+    → Reader F I
     → Option (List ℕ)
-rest_of left unread (File file) = left file
-rest_of left unread (Input input) = unread input
+bytes_left_of_reader left unread (File file) = left file
+bytes_left_of_reader left unread (Input input) = unread input
 
 -- A read of an open file, or of standard input, may return this error.
-abbrev pub may_fail : {F I : Type 0} → (F → Error → Type 0) → (I → Error → Type 0) → Reader F I
+abbrev pub reader_may_fail_with : {F I : Type 0} → (F → Error → Type 0) → (I → Error → Type 0)
+    → Reader F I
     → Error → Type 0
-may_fail fails breaks (File file) = fails file
-may_fail fails breaks (Input input) = breaks input
+reader_may_fail_with fails breaks (File file) = fails file
+reader_may_fail_with fails breaks (Input input) = breaks input
 
 -- The number of an open file, or of standard input.
 abbrev pub number_of : {F I : Type 0} → (F → Option ℤ) → (I → Option ℤ) → Reader F I → Option ℤ

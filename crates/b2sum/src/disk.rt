@@ -9,9 +9,9 @@ ghost use Rattle.std.specs.IoError.{error_kind};
 ghost use Rattle.std.specs.declared.io.ErrorKind.TheVariants.{OutOfMemory};
 ghost use Rattle.std.specs.Io.KnownBytes.{ReadConsumes};
 ghost use Rattle.std.specs.declared.io.Error.{Error};
-ghost use Rattle.blake2_streams.specs.Devices.{Gives};
+ghost use Rattle.blake2_streams.specs.Devices.{ReadReturns};
 ghost use Rattle.b2sum.specs.FilePaths.{character_of, path_of};
-ghost use Rattle.b2sum.specs.FileReads.{may_fail, number_of, rest_of};
+ghost use Rattle.b2sum.specs.FileReads.{reader_may_fail_with, number_of, bytes_left_of_reader};
 
 use b2sum_commands::{Disk, OpenFile, Output};
 use blake2::streams::{DeviceError, Sink};
@@ -173,7 +173,7 @@ impl<F: Source, I: Source + Drop> Opened<F, I> {
             (λ file. ⟦<Opened<F, I> as OpenFile>⟧.failed file ≡ false) }
         ensures named { IfOk result
             (λ file. ⟦<Opened<F, I> as OpenFile>⟧.named file ≡ 45 ∷ []) }
-        ensures reader { IfOk result (λ file. rest_of F.left I.left file.reader
+        ensures reader { IfOk result (λ file. bytes_left_of_reader F.left I.left file.reader
             ≡ I.left input) }
     {
         let name = Vec::from_slice(alloc, b"-")?;
@@ -196,9 +196,9 @@ fn fresh<F, I>(reader: Reader<F, I>, name: Vec<u8>) -> Opened<F, I>
 
 impl<F: Source, I: Source> OpenFile for Opened<F, I> {
     ghost use Rattle.std.specs.Prelude.{is_some};
-    ghost use Rattle.b2sum.specs.FileReads.{number_of, rest_of};
+    ghost use Rattle.b2sum.specs.FileReads.{number_of, bytes_left_of_reader};
 
-    ghost left = { λ s. rest_of F.left I.left s.reader };
+    ghost left = { λ s. bytes_left_of_reader F.left I.left s.reader };
 
     ghost failed = { λ s. is_some s.error };
 
@@ -214,12 +214,12 @@ impl<F: Source, I: Source> OpenFile for Opened<F, I> {
         ensures name { self.new.name.items ≡ self.old.name.items }
 
         // It returns the next bytes of the file or of standard input, and none only at the end.
-        ensures bytes { Gives (rest_of F.left I.left self.old.reader)
-            (rest_of F.left I.left self.new.reader) result buf.new }
+        ensures bytes { ReadReturns (bytes_left_of_reader F.left I.left self.old.reader)
+            (bytes_left_of_reader F.left I.left self.new.reader) result buf.new }
 
         // It keeps the error that the system returned.
         ensures error { IsErr result → IfSome self.new.error
-            (may_fail F.fails I.fails self.old.reader) }
+            (reader_may_fail_with F.fails I.fails self.old.reader) }
     {
         let result = match &mut self.reader {
             Reader::File(file) => file.take(buf),

@@ -4,17 +4,17 @@ ghost use Rattle.std.specs.Prelude.{◌≡◌, ◌↔◌, ℕ, ◌+◌, ◌<◌,
 ghost use Rattle.std.specs.Prelude.{take, IsTrue, IsErr, OnOk, IfSome, true, false};
 ghost use Rattle.std.specs.Io.KnownBytes.{Consumes};
 ghost use Rattle.std.specs.Result.{IsErrOf};
-ghost use Rattle.blake2_streams.specs.Streams.{GivesAll};
+ghost use Rattle.blake2_streams.specs.Streams.{ReturnsAllBytes};
 ghost use Rattle.blake2_state.specs.TreeStates.{IsReady as IsReadyTree, count, future};
-ghost use Rattle.blake2_tree.specs.TreeLengths.{AcceptsLengths, lengths_of};
+ghost use Rattle.blake2_tree.specs.TreeLengths.{AreAcceptedTreeLengths, tree_lengths_of};
 ghost use Rattle.blake2_tree.specs.TreeRoot.{tree_parameters, tree_root};
 ghost use Rattle.blake2_simd.specs.Family.{blake2b};
 ghost use Rattle.blake2_compress.specs.Hash.{sequential};
 ghost use Rattle.blake2_state.specs.ConstructorArguments.{AdmitsState, digest_given};
 ghost use Rattle.blake2_state.specs.ConstructorArguments.{parameters_given};
-ghost use Rattle.blake2_xof.specs.Xof.{derived};
-ghost use Rattle.b2sum.specs.FileDigests.{digest_with};
-ghost use Rattle.b2sum.specs.RefusedTexts.{IsTooLong, AcceptsOptions, counted_key, limit_of};
+ghost use Rattle.blake2_xof.specs.Xof.{derived_key};
+ghost use Rattle.b2sum.specs.FileDigests.{digest_by_function};
+ghost use Rattle.b2sum.specs.RefusedTexts.{IsTooLong, AcceptsOptions, key_byte_count, text_limit};
 
 use crate::lanes::digest_several;
 use crate::states::{Absorb, HashState};
@@ -50,15 +50,15 @@ const DERIVED_BYTES: usize = 8192;
 
 impl Hashes for Blake2 {
     ghost use Rattle.blake2_simd.specs.Family.{blake2b};
-    ghost use Rattle.blake2_xof.specs.Xof.{derived};
-    ghost use Rattle.b2sum.specs.FileDigests.{digest_with, seal_with};
+    ghost use Rattle.blake2_xof.specs.Xof.{derived_key};
+    ghost use Rattle.b2sum.specs.FileDigests.{digest_by_function, seal_mac};
     ghost use Rattle.b2sum.specs.RefusedTexts.{HashesSeveral};
 
     ghost hashing = { record {
-      digest = digest_with;
+      digest = digest_by_function;
       rejects = λ _ _. true;
-      seal = seal_with;
-      derive = derived blake2b;
+      seal = seal_mac;
+      derive = derived_key blake2b;
     } };
 
     ghost hashes_several = { HashesSeveral };
@@ -77,14 +77,14 @@ impl Hashes for Blake2 {
         // What the trait asks says nothing here: `too_long` says when an error comes.
         ensures refused { IsErr result → (S.failed source.new || true) ≡ true }
         ensures whole { OnOk result ((text : List ℕ)
-            × GivesAll (S.left source.old) (S.left source.new) text
-            × (take function.bytes out.new ≡ digest_with options.now function text)) }
+            × ReturnsAllBytes (S.left source.old) (S.left source.new) text
+            × (take function.bytes out.new ≡ digest_by_function options.now function text)) }
 
         // It refuses exactly lengths that the algorithm does not accept, and too many bytes.
         ensures too_long { IfSome (S.left source.old) (IsTooLong result (S.failed source.new)
             (AcceptsOptions options.now function)
-            (counted_key function.algorithm options.now.key.items)
-            (limit_of function.algorithm)) }
+            (key_byte_count function.algorithm options.now.key.items)
+            (text_limit function.algorithm)) }
         ensures name { S.named source.new ≡ S.named source.old }
     {
         let given = parameters(options, function);
@@ -154,7 +154,7 @@ fn derive_key(key: &[u8], context: &[u8], out: &mut [u8])
     requires fits { length key.now ≤ 64 }
     requires some { 1 ≤ length out.old }
     requires room { length out.old ≤ 64 }
-    ensures { out.new ≡ derived blake2b key.now context.now (length out.old) }
+    ensures { out.new ≡ derived_key blake2b key.now context.now (length out.old) }
 {
     let mut state = blake2xb::State::init(out.len() as u64, key, b"", b"").unwrap();
     state.update(context);
@@ -188,7 +188,7 @@ fn absorb_source<H: Absorb, S: OpenFile>(source: &mut S, state: &mut H, buffer: 
     ensures failed { IsTrue (S.failed source.new) → result ≡ false }
     ensures name { S.named source.new ≡ S.named source.old }
     ensures whole { result ≡ true → (text : List ℕ)
-        × GivesAll (S.left source.old) (S.left source.new) text
+        × ReturnsAllBytes (S.left source.old) (S.left source.new) text
         × (H.count state.old + length text < H.limit)
         × ((y : List ℕ) → H.future state.new y ≡ H.future state.old (text ++ y)) }
     ensures too_long { result ≡ false → S.failed source.new ≡ false → (text : List ℕ)
@@ -251,7 +251,7 @@ fn digest<H: HashState + Drop, S: OpenFile>(
     ensures read { IsErrOf result StreamFault.Read ↔ IsTrue (S.failed source.new) }
     ensures name { S.named source.new ≡ S.named source.old }
     ensures whole { OnOk result ((text : List ℕ)
-        × GivesAll (S.left source.old) (S.left source.new) text
+        × ReturnsAllBytes (S.left source.old) (S.left source.new) text
         × (take given.now.output_size out.new ≡ H.digest given.now text)) }
     ensures too_long { IfSome (S.left source.old) (IsTooLong result (S.failed source.new)
         (H.accepts given.now) (H.key_count given.now) H.limit) }
@@ -319,7 +319,7 @@ fn absorb_tree<S: OpenFile>(
     ensures failed { IsTrue (S.failed source.new) → result ≡ false }
     ensures name { S.named source.new ≡ S.named source.old }
     ensures whole { result ≡ true → (text : List ℕ)
-        × GivesAll (S.left source.old) (S.left source.new) text
+        × ReturnsAllBytes (S.left source.old) (S.left source.new) text
         × (count state.old + length text < 2 ^ 58)
         × ((y : List ℕ) → future state.new y ≡ future state.old (text ++ y)) }
     ensures too_long { result ≡ false → S.failed source.new ≡ false → (text : List ℕ)
@@ -342,11 +342,11 @@ fn digest_tree<S: OpenFile>(
     ensures read { IsErrOf result StreamFault.Read ↔ IsTrue (S.failed source.new) }
     ensures name { S.named source.new ≡ S.named source.old }
     ensures whole { OnOk result ((text : List ℕ)
-        × GivesAll (S.left source.old) (S.left source.new) text
+        × ReturnsAllBytes (S.left source.old) (S.left source.new) text
         × (take given.now.output_size out.new ≡ tree_root given.now.output_size
         (tree_parameters given.now.salt.now given.now.persona.now leaf) text)) }
     ensures too_long { IfSome (S.left source.old) (IsTooLong result (S.failed source.new)
-        (AcceptsLengths (lengths_of given.now.output_size
+        (AreAcceptedTreeLengths (tree_lengths_of given.now.output_size
         (tree_parameters given.now.salt.now given.now.persona.now leaf))) 0 (2 ^ 58)) }
 {
     let Ok(mut state) = TreeState::new(given.output_size, given.salt, given.persona, leaf) else {

@@ -2,10 +2,16 @@
 
 ghost use Rattle.std.specs.Prelude.{◌≡◌, ◌≢◌, ◌⊎◌, ℕ, ◌+◌, ◌-◌, ◌<◌, ◌≤◌, List, [], length, take};
 ghost use Rattle.std.specs.Prelude.{drop, map, slice_index_or, true, false};
-ghost use Rattle.blake2_state.specs.SeveralStates.{piece_at};
+ghost use Rattle.blake2_state.specs.SeveralStates.{input_bytes_at};
 ghost use Rattle.b2sum.specs.declared.lanes.Lane.{Lane};
-ghost use Rattle.b2sum.specs.LaneStates.{AreBegun, IsAt, IsDone, IsIn, IsInText};
-ghost use Rattle.b2sum.specs.LaneStates.{piece_after, place_after};
+ghost use Rattle.b2sum.specs.LaneStates.{
+  TextsAreDoneOrInLanes,
+  StateIsAtOffset,
+  DigestIsWritten,
+  StateIsAtLane,
+  LaneIsInText,
+};
+ghost use Rattle.b2sum.specs.LaneStates.{next_piece_of_lane, lane_after_piece};
 
 use crate::states::{HashState, LaneState};
 use blake2_state::StateParameters;
@@ -31,7 +37,7 @@ pub fn digest_several<H: LaneState>(
     requires states { length states.old ≡ 8 }
     requires number { length out.old ≡ length texts.now }
     ensures right { result ≡ true → (j : ℕ) → j < length texts.now
-        → IsDone (H.digest given.now) given.now.output_size
+        → DigestIsWritten (H.digest given.now) given.now.output_size
         (slice_index_or (map (λ t. t.now) texts.now) j []) (slice_index_or out.new j []) }
     ensures refused { result ≡ false → (¬ H.accepts given.now) ⊎ ((j : ℕ) × (j < length texts.now)
         × (H.limit ≤ H.key_count given.now
@@ -58,7 +64,7 @@ pub fn digest_several<H: LaneState>(
 // room for the text.
 fn start<H: HashState>(given: &StateParameters<'_>, text: &[u8], state: &mut H) -> bool
     ensures most { result ≡ true → given.now.output_size ≤ 64 }
-    ensures started { result ≡ true → IsAt H.IsReady H.size H.count H.limit H.future
+    ensures started { result ≡ true → StateIsAtOffset H.IsReady H.size H.count H.limit H.future
         given.now.output_size (H.digest given.now) 0 text.now state.new }
     ensures refused { result ≡ false
         → (¬ H.accepts given.now) ⊎ (H.limit ≤ H.key_count given.now + length text.now) }
@@ -90,9 +96,9 @@ fn start_all<H: HashState>(
     ensures texts { result ≡ true → (j : ℕ) (l : Lane) → j < count
         → (slice_index_or lanes.new j l).text ≡ j }
     ensures within { result ≡ true → (j : ℕ) (l : Lane) → j < count
-        → IsInText (map (λ t. t.now) texts.now) (slice_index_or lanes.new j l) }
+        → LaneIsInText (map (λ t. t.now) texts.now) (slice_index_or lanes.new j l) }
     ensures states { result ≡ true → (j : ℕ) (l : Lane) (s : H) → j < count
-        → IsIn H.IsReady H.size H.count H.limit H.future given.now.output_size
+        → StateIsAtLane H.IsReady H.size H.count H.limit H.future given.now.output_size
         (H.digest given.now) (map (λ t. t.now) texts.now) (slice_index_or lanes.new j l)
         (slice_index_or states.new j s) }
     ensures refused { result ≡ false → (¬ H.accepts given.now) ⊎ ((j : ℕ) × (j < length texts.now)
@@ -146,21 +152,21 @@ fn finish<H: LaneState>(
     requires number { (length states.old ≡ 8) × (length lanes.old ≡ 8) }
     requires out { length out.old ≡ length texts.now }
     requires most { given.now.output_size ≤ 64 }
-    requires within { (j : ℕ) (l : Lane) → j < count → IsInText (map (λ t. t.now) texts.now)
+    requires within { (j : ℕ) (l : Lane) → j < count → LaneIsInText (map (λ t. t.now) texts.now)
         (slice_index_or lanes.old j l) }
     requires states { (j : ℕ) (l : Lane) (s : H) → j < count
-        → IsIn H.IsReady H.size H.count H.limit H.future given.now.output_size
+        → StateIsAtLane H.IsReady H.size H.count H.limit H.future given.now.output_size
         (H.digest given.now) (map (λ t. t.now) texts.now) (slice_index_or lanes.old j l)
         (slice_index_or states.old j s) }
     ensures texts { (j : ℕ) (l : Lane) → j < count
         → (slice_index_or lanes.new j l).text ≡ (slice_index_or lanes.old j l).text }
-    ensures within { (j : ℕ) (l : Lane) → j < count → IsInText (map (λ t. t.now) texts.now)
+    ensures within { (j : ℕ) (l : Lane) → j < count → LaneIsInText (map (λ t. t.now) texts.now)
         (slice_index_or lanes.new j l) }
     ensures states { (j : ℕ) (l : Lane) (s : H) → j < count
-        → IsIn H.IsReady H.size H.count H.limit H.future given.now.output_size
+        → StateIsAtLane H.IsReady H.size H.count H.limit H.future given.now.output_size
         (H.digest given.now) (map (λ t. t.now) texts.now) (slice_index_or lanes.new j l)
         (slice_index_or states.new j s) }
-    ensures done { (l : Lane) → IsDone (H.digest given.now) given.now.output_size
+    ensures done { (l : Lane) → DigestIsWritten (H.digest given.now) given.now.output_size
         (slice_index_or (map (λ t. t.now) texts.now) (slice_index_or lanes.old lane l).text [])
         (slice_index_or out.new (slice_index_or lanes.old lane l).text []) }
     ensures others { (t : ℕ) (l : Lane) → t ≢ (slice_index_or lanes.old lane l).text
@@ -197,16 +203,16 @@ fn finish_all<H: LaneState>(
     requires number { (length states.old ≡ 8) × (length lanes.old ≡ 8) }
     requires out { length out.old ≡ length texts.now }
     requires most { 0 < count → given.now.output_size ≤ 64 }
-    requires within { (j : ℕ) (l : Lane) → j < count → IsInText (map (λ t. t.now) texts.now)
+    requires within { (j : ℕ) (l : Lane) → j < count → LaneIsInText (map (λ t. t.now) texts.now)
         (slice_index_or lanes.old j l) }
     requires states { (j : ℕ) (l : Lane) (s : H) → j < count
-        → IsIn H.IsReady H.size H.count H.limit H.future given.now.output_size
+        → StateIsAtLane H.IsReady H.size H.count H.limit H.future given.now.output_size
         (H.digest given.now) (map (λ t. t.now) texts.now) (slice_index_or lanes.old j l)
         (slice_index_or states.old j s) }
-    requires begun { AreBegun (H.digest given.now) given.now.output_size
+    requires begun { TextsAreDoneOrInLanes (H.digest given.now) given.now.output_size
         (map (λ t. t.now) texts.now) out.old lanes.old 0 count (length texts.now) }
     ensures { (t : ℕ) → t < length texts.now
-        → IsDone (H.digest given.now) given.now.output_size
+        → DigestIsWritten (H.digest given.now) given.now.output_size
         (slice_index_or (map (λ t. t.now) texts.now) t []) (slice_index_or out.new t []) }
 {
     for lane in 0..count {
@@ -225,18 +231,18 @@ fn go_on<H: LaneState>(
 )
     requires few { count ≤ 8 }
     requires number { (length states.old ≡ 8) × (length lanes.old ≡ 8) }
-    requires within { (j : ℕ) (l : Lane) → j < count → IsInText (map (λ t. t.now) texts.now)
+    requires within { (j : ℕ) (l : Lane) → j < count → LaneIsInText (map (λ t. t.now) texts.now)
         (slice_index_or lanes.old j l) }
     requires states { (j : ℕ) (l : Lane) (s : H) → j < count
-        → IsIn H.IsReady H.size H.count H.limit H.future given.now.output_size
+        → StateIsAtLane H.IsReady H.size H.count H.limit H.future given.now.output_size
         (H.digest given.now) (map (λ t. t.now) texts.now) (slice_index_or lanes.old j l)
         (slice_index_or states.old j s) }
     ensures lanes { (j : ℕ) (l : Lane) → j < count → slice_index_or lanes.new j l
-        ≡ place_after (map (λ t. t.now) texts.now) most (slice_index_or lanes.old j l) }
-    ensures within { (j : ℕ) (l : Lane) → j < count → IsInText (map (λ t. t.now) texts.now)
+        ≡ lane_after_piece (map (λ t. t.now) texts.now) most (slice_index_or lanes.old j l) }
+    ensures within { (j : ℕ) (l : Lane) → j < count → LaneIsInText (map (λ t. t.now) texts.now)
         (slice_index_or lanes.new j l) }
     ensures states { (j : ℕ) (l : Lane) (s : H) → j < count
-        → IsIn H.IsReady H.size H.count H.limit H.future given.now.output_size
+        → StateIsAtLane H.IsReady H.size H.count H.limit H.future given.now.output_size
         (H.digest given.now) (map (λ t. t.now) texts.now) (slice_index_or lanes.new j l)
         (slice_index_or states.new j s) }
 {
@@ -259,11 +265,11 @@ fn go_on<H: LaneState>(
 // bytes for the others.
 fn pieces_of<'a>(texts: &[&'a [u8]], count: usize, most: usize, lanes: &[Lane]) -> [Text<'a>; 8]
     requires few { (count ≤ 8) × (count ≤ length lanes.now) }
-    requires within { (j : ℕ) (l : Lane) → j < count → IsInText (map (λ t. t.now) texts.now)
+    requires within { (j : ℕ) (l : Lane) → j < count → LaneIsInText (map (λ t. t.now) texts.now)
         (slice_index_or lanes.now j l) }
     ensures number { length result ≡ 8 }
-    ensures pieces { (j : ℕ) (l : Lane) → j < count → piece_at result j
-        ≡ piece_after (map (λ t. t.now) texts.now) most (slice_index_or lanes.now j l) }
+    ensures pieces { (j : ℕ) (l : Lane) → j < count → input_bytes_at result j
+        ≡ next_piece_of_lane (map (λ t. t.now) texts.now) most (slice_index_or lanes.now j l) }
 {
     let mut pieces = [
         Text { bytes: &[] },
@@ -283,8 +289,8 @@ fn pieces_of<'a>(texts: &[&'a [u8]], count: usize, most: usize, lanes: &[Lane]) 
 
 // The same of one lane.
 fn piece_of<'a>(texts: &[&'a [u8]], most: usize, lane: Lane) -> &'a [u8]
-    requires { IsInText (map (λ t. t.now) texts.now) lane }
-    ensures { result.now ≡ piece_after (map (λ t. t.now) texts.now) most lane }
+    requires { LaneIsInText (map (λ t. t.now) texts.now) lane }
+    ensures { result.now ≡ next_piece_of_lane (map (λ t. t.now) texts.now) most lane }
 {
     let rest = &texts[lane.text][lane.at..];
     &rest[..most.min(rest.len())]
@@ -293,10 +299,10 @@ fn piece_of<'a>(texts: &[&'a [u8]], most: usize, lane: Lane) -> &'a [u8]
 // Each of the first lanes goes on by at most so many bytes.
 fn move_on(texts: &[&[u8]], count: usize, most: usize, lanes: &mut [Lane])
     requires few { count ≤ length lanes.old }
-    requires within { (j : ℕ) (l : Lane) → j < count → IsInText (map (λ t. t.now) texts.now)
+    requires within { (j : ℕ) (l : Lane) → j < count → LaneIsInText (map (λ t. t.now) texts.now)
         (slice_index_or lanes.old j l) }
     ensures { (j : ℕ) (l : Lane) → j < count → slice_index_or lanes.new j l
-        ≡ place_after (map (λ t. t.now) texts.now) most (slice_index_or lanes.old j l) }
+        ≡ lane_after_piece (map (λ t. t.now) texts.now) most (slice_index_or lanes.old j l) }
 {
     for j in 0..count {
         lanes[j].at = end_of(texts, most, lanes[j]);
@@ -305,8 +311,8 @@ fn move_on(texts: &[&[u8]], count: usize, most: usize, lanes: &mut [Lane])
 
 // Returns the place in its text of a lane that goes on by at most so many bytes.
 fn end_of(texts: &[&[u8]], most: usize, lane: Lane) -> usize
-    requires { IsInText (map (λ t. t.now) texts.now) lane }
-    ensures { result ≡ (place_after (map (λ t. t.now) texts.now) most lane).at }
+    requires { LaneIsInText (map (λ t. t.now) texts.now) lane }
+    ensures { result ≡ (lane_after_piece (map (λ t. t.now) texts.now) most lane).at }
 {
     texts[lane.text].len() - bytes_left(texts, lane).saturating_sub(most)
 }

@@ -10,8 +10,8 @@ ghost use Rattle.std.specs.Prelude.{◌≡◌, ◌↔◌, ℕ, ◌+◌, ◌<◌,
 ghost use Rattle.std.specs.Prelude.{true, false};
 ghost use Rattle.std.specs.Prelude.{slice_index_or};
 ghost use Rattle.blake2_state.specs.declared.StateParameters.{StateParameters};
-ghost use Rattle.blake2_state.specs.SeveralStates.{piece_at};
-ghost use Rattle.b2sum.specs.LaneStates.{Takes};
+ghost use Rattle.blake2_state.specs.SeveralStates.{input_bytes_at};
+ghost use Rattle.b2sum.specs.LaneStates.{StateAbsorbs};
 
 use blake2_state::StateParameters;
 use blake2_state::many::Text;
@@ -90,11 +90,11 @@ pub trait LaneState: HashState {
         requires number { length inputs.now ≡ length states.old }
         requires can { (j : ℕ) (s : Self) → j < length states.old
             → Self.IsReady (slice_index_or states.old j s)
-            × (Self.count (slice_index_or states.old j s) + length (piece_at inputs.now j)
+            × (Self.count (slice_index_or states.old j s) + length (input_bytes_at inputs.now j)
             < Self.limit) }
         ensures number { length states.new ≡ length states.old }
         ensures absorbed { (j : ℕ) (s : Self) → j < length states.old
-            → Takes Self.IsReady Self.size Self.count Self.future
-            (slice_index_or states.old j s) (piece_at inputs.now j)
+            → StateAbsorbs Self.IsReady Self.size Self.count Self.future
+            (slice_index_or states.old j s) (input_bytes_at inputs.now j)
             (slice_index_or states.new j s) };
 }

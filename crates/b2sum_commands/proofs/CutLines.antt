@@ -10,31 +10,31 @@ use Rattle.std.proofs.Math.Seq.{drop-append_seam}
 use Rattle.std.specs.List.{position_or_len, before_first, after_first}
 use Rattle.std.specs.Option.{option_map}
 use Rattle.text_lines.specs.Cuts.{cut_at}
-use Rattle.b2sum_commands.specs.LineReads.{IsOneLine}
+use Rattle.b2sum_commands.specs.LineReads.{HasNoNewline}
 
 -- What a cut at the first newline says of a text.
-abbrev IsCut : List ℕ → Option (List ℕ × List ℕ) → Type 0
-IsCut text None = IsOneLine text
-IsCut text (Some parts) = IsOneLine parts.0 × (text ≡ parts.0 ++ (10 ∷ parts.1))
+abbrev IsCutAtNewline : List ℕ → Option (List ℕ × List ℕ) → Type 0
+IsCutAtNewline text None = HasNoNewline text
+IsCutAtNewline text (Some parts) = HasNoNewline parts.0 × (text ≡ parts.0 ++ (10 ∷ parts.1))
 
 abbrev newline : ℕ → Bool
 newline b = b == 10
 
 one_line : (text : List ℕ) (n : ℕ) → length text ≤ n → n ≤ position_or_len newline text
-    → IsOneLine text
+    → HasNoNewline text
 one_line text n fits far = All-from_get_or (λ b. newline b ≡ false) text 0
     (λ i below. fails_before_first newline text i 0 (omega (arith, fits, far, below)))
 
 before_one_line : (text : List ℕ) → position_or_len newline text < length text
-    → IsOneLine (before_first newline text)
+    → HasNoNewline (before_first newline text)
 before_one_line text below = All-from_get_or (λ b. newline b ≡ false) (before_first newline text) 0
     (λ i less. let first : i < position_or_len newline text =
     omega (arith, less, length-take (position_or_len newline text) text) in
     ap newline (get_or-take (position_or_len newline text) text i 0 first)
     ∙ fails_before_first newline text i 0 first)
 
-is_cut : (text : List ℕ) → IsCut text (cut_at 10 text)
-is_cut text = elim (cases_lt (position_or_len newline text) (length text)) [
+cut_at_newline-is_cut : (text : List ℕ) → IsCutAtNewline text (cut_at 10 text)
+cut_at_newline-is_cut text = elim (cases_lt (position_or_len newline text) (length text)) [
   | inl below ↦ rw (lt-ltb (position_or_len newline text) (length text) below) (
     before_one_line text below,
     split_at_first newline text 0 below
@@ -46,40 +46,41 @@ is_cut text = elim (cases_lt (position_or_len newline text) (length text)) [
 ]
 
 -- A slice that is cut at the first newline.
-pub cut_slice : (text : List ℕ) (found : Option (Bor (List ℕ) × Bor (List ℕ)))
+pub slice_cut_at_newline : (text : List ℕ) (found : Option (Bor (List ℕ) × Bor (List ℕ)))
     (parts : Bor (List ℕ) × Bor (List ℕ)) → found ≡ Some parts
     → option_map (λ (x : Bor (List ℕ) × Bor (List ℕ)). (x.0.now, x.1.now)) found ≡ cut_at 10 text
-    → IsOneLine parts.0.now × (text ≡ parts.0.now ++ (10 ∷ parts.1.now))
-cut_slice text found parts is cut = subst (IsCut text)
+    → HasNoNewline parts.0.now × (text ≡ parts.0.now ++ (10 ∷ parts.1.now))
+slice_cut_at_newline text found parts is cut = subst (IsCutAtNewline text)
     (sym cut ∙ ap (option_map (λ (x : Bor (List ℕ) × Bor (List ℕ)). (x.0.now, x.1.now))) is)
-    (is_cut text)
+    (cut_at_newline-is_cut text)
 
 -- A slice without a newline.
-pub uncut_slice : (text : List ℕ) (found : Option (Bor (List ℕ) × Bor (List ℕ))) → found ≡ None
+pub slice-without_newline : (text : List ℕ) (found : Option (Bor (List ℕ) × Bor (List ℕ))) → found
+    ≡ None
     → option_map (λ (x : Bor (List ℕ) × Bor (List ℕ)). (x.0.now, x.1.now)) found ≡ cut_at 10 text
-    → IsOneLine text
-uncut_slice text found is cut = subst (IsCut text)
+    → HasNoNewline text
+slice-without_newline text found is cut = subst (IsCutAtNewline text)
     (sym cut ∙ ap (option_map (λ (x : Bor (List ℕ) × Bor (List ℕ)). (x.0.now, x.1.now))) is)
-    (is_cut text)
+    (cut_at_newline-is_cut text)
 
 -- A line goes on.
-pub one_line_more : (line part new : List ℕ) → new ≡ line ++ part → IsOneLine line
-    → IsOneLine part → IsOneLine new
-one_line_more line part new is one more =
-    subst IsOneLine (sym is) (All-append (λ b. newline b ≡ false) line part one more)
+pub no_newline-append : (line part new : List ℕ) → new ≡ line ++ part → HasNoNewline line
+    → HasNoNewline part → HasNoNewline new
+no_newline-append line part new is one more =
+    subst HasNoNewline (sym is) (All-append (λ b. newline b ≡ false) line part one more)
 
 -- A slice of a list is what is left of its front.
-pub slice_is : (xs : List ℕ) (start end : ℕ) → start ≤ end
+pub slice-is_drop_of_take : (xs : List ℕ) (start end : ℕ) → start ≤ end
     → take (end - start) (drop start xs) ≡ drop start (take end xs)
-slice_is xs start end order =
+slice-is_drop_of_take xs start end order =
     sym (drop-take start (end - start) xs)
     ∙ ap (λ n. drop start (take n xs)) (omega (arith, order))
 
 -- What is unread after a line.
-pub unread_after : (piece part after : List ℕ) (start end : ℕ) → end ≤ length piece
+pub unread-after_line : (piece part after : List ℕ) (start end : ℕ) → end ≤ length piece
     → drop start (take end piece) ≡ part ++ (10 ∷ after)
     → (length after ≤ end) × (drop (end - length after) (take end piece) ≡ after)
-unread_after piece part after start end bound cut =
+unread-after_line piece part after start end bound cut =
     let read : List ℕ = take end piece in
     let front : List ℕ = take start read ++ (part ++ (10 ∷ [])) in
     let whole : read ≡ front ++ after =
@@ -96,10 +97,11 @@ unread_after piece part after start end bound cut =
     )
 
 -- A line with all that is unread, in which there is no newline.
-pub line_grown : (old more line self unread slice new : List ℕ) → old ++ more ≡ line ++ self
-    → unread ≡ self → slice ≡ unread → new ≡ line ++ slice → IsOneLine line → IsOneLine unread
-    → IsOneLine new × (old ++ more ≡ new)
-line_grown old more line self unread slice new passed view is grown one all = (
-  one_line_more line slice new grown one (subst IsOneLine (sym is) all),
+pub line_append_unread-no_newline : (old more line self unread slice new : List ℕ) → old ++ more
+    ≡ line ++ self
+    → unread ≡ self → slice ≡ unread → new ≡ line ++ slice → HasNoNewline line → HasNoNewline unread
+    → HasNoNewline new × (old ++ more ≡ new)
+line_append_unread-no_newline old more line self unread slice new passed view is grown one all = (
+  no_newline-append line slice new grown one (subst HasNoNewline (sym is) all),
   passed ∙ ap (λ xs. line ++ xs) (sym view ∙ sym is) ∙ sym grown,
 )

@@ -16,45 +16,48 @@ has_byte : (byte : ℕ) (front rest : List ℕ)
 has_byte byte [] rest = rw (eq-eqb byte byte refl) refl
 has_byte byte (b ∷ front) rest = rw (has_byte byte front rest) (or_true (b == byte))
 
-no_byte : (byte : ℕ) (text : List ℕ) → list_any (λ c. c == byte) text ≡ false
+after_last-without_byte : (byte : ℕ) (text : List ℕ) → list_any (λ c. c == byte) text ≡ false
     → after_last byte text ≡ text
-no_byte byte [] none = refl
-no_byte byte (b ∷ text) none = rw none refl
+after_last-without_byte byte [] none = refl
+after_last-without_byte byte (b ∷ text) none = rw none refl
 
-after_byte : (byte : ℕ) (front rest : List ℕ) → list_any (λ c. c == byte) rest ≡ false
+after_last-of_append : (byte : ℕ) (front rest : List ℕ) → list_any (λ c. c == byte) rest ≡ false
     → after_last byte (front ++ (byte ∷ rest)) ≡ rest
-after_byte byte [] rest none = rw (has_byte byte [] rest) (no_byte byte rest none)
-after_byte byte (b ∷ front) rest none =
-    rw (has_byte byte (b ∷ front) rest) (after_byte byte front rest none)
+after_last-of_append byte [] rest none = rw (has_byte byte [] rest)
+    (after_last-without_byte byte rest none)
+after_last-of_append byte (b ∷ front) rest none =
+    rw (has_byte byte (b ∷ front) rest) (after_last-of_append byte front rest none)
 
-from_byte : (byte : ℕ) (text : List ℕ) (i : ℕ) → i < length text → get_or text i 0 ≡ byte
+text-split_at_byte : (byte : ℕ) (text : List ℕ) (i : ℕ) → i < length text → get_or text i 0 ≡ byte
     → text ≡ take i text ++ (byte ∷ drop (i + 1) text)
-from_byte byte text i below is =
+text-split_at_byte byte text i below is =
     sym (take-append-drop i text) ∙ ap (λ rest. take i text ++ rest)
     (rw (add-one) (drop-cons text i 0 below) ∙ ap (λ b. b ∷ drop (i + 1) text) is)
 
-slice_whole : (text : List ℕ) (at : ℕ) → take (length text - at) (drop at text) ≡ drop at text
-slice_whole text at =
+slice_to_end-is_drop : (text : List ℕ) (at : ℕ) → take (length text - at) (drop at text)
+    ≡ drop at text
+slice_to_end-is_drop text at =
     take_all (length text - at) (drop at text) (omega (arith, length-drop at text))
 
 -- What is after the last such byte.
-pub part_after : (byte : ℕ) (text : List ℕ) (at : ℕ) → 0 < at → at ≤ length text
+pub slice-is_after_last_byte : (byte : ℕ) (text : List ℕ) (at : ℕ) → 0 < at → at ≤ length text
     → get_or text (at - 1) 0 ≡ byte → list_any (λ c. c == byte) (drop at text) ≡ false
     → take (length text - at) (drop at text) ≡ after_last byte text
-part_after byte text at some fits is none =
+slice-is_after_last_byte byte text at some fits is none =
     let next : at - 1 + 1 ≡ at = omega (arith, some) in
     let parts : text ≡ take (at - 1) text ++ (byte ∷ drop at text) =
     subst (λ n. text ≡ take (at - 1) text ++ (byte ∷ drop n text)) next
-    (from_byte byte text (at - 1) (omega (arith, some, fits)) is) in
-    slice_whole text at
-    ∙ sym (ap (after_last byte) parts ∙ after_byte byte (take (at - 1) text) (drop at text) none)
+    (text-split_at_byte byte text (at - 1) (omega (arith, some, fits)) is) in
+    slice_to_end-is_drop text at
+    ∙ sym (ap (after_last byte) parts
+    ∙ after_last-of_append byte (take (at - 1) text) (drop at text) none)
 
 -- A text without such a byte is all after it.
-pub whole_part : (byte : ℕ) (text : List ℕ) (at : ℕ) → at ≤ 0
+pub slice-is_whole_without_byte : (byte : ℕ) (text : List ℕ) (at : ℕ) → at ≤ 0
     → list_any (λ c. c == byte) (drop at text) ≡ false
     → take (length text - at) (drop at text) ≡ after_last byte text
-whole_part byte text at start none =
+slice-is_whole_without_byte byte text at start none =
     let zero : at ≡ 0 = omega (arith, start) in
-    slice_whole text at ∙ ap (λ n. drop n text) zero
-    ∙ sym (no_byte byte text
+    slice_to_end-is_drop text at ∙ ap (λ n. drop n text) zero
+    ∙ sym (after_last-without_byte byte text
     (subst (λ n. list_any (λ c. c == byte) (drop n text) ≡ false) zero none))

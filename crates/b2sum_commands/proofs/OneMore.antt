@@ -20,14 +20,14 @@ or_assoc : (a b c : Bool) → ((a || b) || c) ≡ (a || (b || c))
 or_assoc true b c = refl
 or_assoc false b c = refl
 
-pub all_more : {A : Type 0} (p : A → Bool) (xs : List A) (y : A)
+pub list_all-append : {A : Type 0} (p : A → Bool) (xs : List A) (y : A)
     → list_all p (xs ++ (y ∷ [])) ≡ (list_all p xs && p y)
-all_more p [] y = and_true (p y)
-all_more p (x ∷ xs) y = ap (λ b. p x && b) (all_more p xs y) ∙ sym
+list_all-append p [] y = and_true (p y)
+list_all-append p (x ∷ xs) y = ap (λ b. p x && b) (list_all-append p xs y) ∙ sym
     (and_assoc (p x) (list_all p xs) (p y))
 
-pub any_more : {A : Type 0} (p : A → Bool) (xs : List A) (y : A)
+pub list_any-append : {A : Type 0} (p : A → Bool) (xs : List A) (y : A)
     → list_any p (xs ++ (y ∷ [])) ≡ (list_any p xs || p y)
-any_more p [] y = or_false (p y)
-any_more p (x ∷ xs) y = ap (λ b. p x || b) (any_more p xs y) ∙ sym
+list_any-append p [] y = or_false (p y)
+list_any-append p (x ∷ xs) y = ap (λ b. p x || b) (list_any-append p xs y) ∙ sym
     (or_assoc (p x) (list_any p xs) (p y))

@@ -15,9 +15,9 @@ use Rattle.b2sum_lines.specs.declared.entry.Spacing.{Spacing}
 use Rattle.b2sum_lines.specs.declared.entry.Spacing.TheVariants.{One}
 use Rattle.b2sum_lines.specs.declared.entry.Style.{Style}
 use Rattle.b2sum_lines.specs.declared.entry.Style.TheVariants.{Tagged, Text, Binary, Bare}
-use Rattle.b2sum_lines.proofs.LineBytes.{begins, clear, line_begins, line_clear}
-use Rattle.b2sum_lines.proofs.RoundTrip.{entry_read_by}
-use Rattle.blake2_streams.specs.Streams.{GivesAll}
+use Rattle.b2sum_lines.proofs.LineBytes.{begins_no_comment, is_no_line_end, entry_line-begins_no_comment, entry_line-has_no_line_end}
+use Rattle.b2sum_lines.proofs.RoundTrip.{entry_line-is_read_with_algorithm}
+use Rattle.blake2_streams.specs.Streams.{ReturnsAllBytes}
 use Rattle.b2sum_commands.specs.declared.check.Verdict.{Verdict}
 use Rattle.b2sum_commands.specs.declared.check.Verdict.TheVariants.{Equal, Different, Unread}
 use Rattle.b2sum_commands.specs.declared.check.Verdict.TheVariants.{Skipped, Malformed, Unmet}
@@ -27,17 +27,21 @@ use Rattle.b2sum_commands.specs.declared.options.Shape.{Shape}
 use Rattle.b2sum_commands.specs.declared.options.Shape.TheVariants.{Named}
 use Rattle.b2sum_commands.specs.LineNeeds.{has_demanded_length}
 use Rattle.b2sum_commands.specs.Messages.{is_standard_input}
-use Rattle.b2sum_commands.specs.World.{Place, Streams, World, InTurn, AllInTurn, Ends}
-use Rattle.b2sum_commands.specs.PrintedSums.{entry_of, ended_line, printed}
-use Rattle.b2sum_commands.specs.PrintedSums.{printed_function, IsSum}
-use Rattle.b2sum_commands.specs.PrintedSums.{ReadsAs}
-use Rattle.b2sum_commands.specs.Manifests.{checkable, item, spacing_after, spacing_past}
-use Rattle.b2sum_commands.specs.Manifests.{trimmed, listed_function, IsItem, IsLine, IsVerdict}
-use Rattle.b2sum_commands.specs.LineReads.{IsOneLine}
-use Rattle.b2sum_commands.specs.ReadBack.{items, AreReadAs, IsEntry, entries_in}
-use Rattle.b2sum_commands.specs.ReadBack.{AreReadable, AcceptsPrinted, AreNames, IsManifest}
-use Rattle.b2sum_commands.specs.ReadBack.{AreKept, HaveSameDigests, is_kept}
-use Rattle.b2sum_commands.proofs.CheckedLines.{line_first}
+use Rattle.b2sum_commands.specs.World.{Place, Streams, World, AreDoneInTurn, NamesAreDoneInTurn}
+use Rattle.b2sum_commands.specs.World.{EndsWithResult}
+use Rattle.b2sum_commands.specs.PrintedSums.{entry_of, terminated_line, printed}
+use Rattle.b2sum_commands.specs.PrintedSums.{printed_function, DigestLineIsPrinted}
+use Rattle.b2sum_commands.specs.PrintedSums.{SourceHasText}
+use Rattle.b2sum_commands.specs.Manifests.{checkable, item, spacing_after_entry, spacing_after_line}
+use Rattle.b2sum_commands.specs.Manifests.{line_content_unless_comment, function_of_line_entry}
+use Rattle.b2sum_commands.specs.Manifests.{ItemIsChecked, LineIsChecked, VerdictIsRight}
+use Rattle.b2sum_commands.specs.LineReads.{HasNoNewline}
+use Rattle.b2sum_commands.specs.ReadBack.{items, LinesAreReadAsEntries, IsEntryOfFile}
+use Rattle.b2sum_commands.specs.ReadBack.{present_entries}
+use Rattle.b2sum_commands.specs.ReadBack.{OptionsAreReadable, AcceptsPrinted, AreFileNames}
+use Rattle.b2sum_commands.specs.ReadBack.{ManifestIsPrinted}
+use Rattle.b2sum_commands.specs.ReadBack.{FilesHaveKnownBytes, HaveSameDigests, is_equal_or_unread}
+use Rattle.b2sum_commands.proofs.CheckedLines.{lines_of-line_and_rest}
 
 -- ---- a line
 
@@ -46,81 +50,94 @@ false_of_not true h = absurd (search (h, rules))
 false_of_not false h = refl
 
 -- A clear byte is no newline, and no carriage return.
-clear_ends_no_line : (b : ℕ) → clear b ≡ true → ((b == 10) ≡ false) × ((b == 13) ≡ false)
-clear_ends_no_line b h = or_parts (b == 10) (b == 13) (false_of_not ((b == 10) || (b == 13)) h)
+no_line_end-is_neither_10_nor_13 : (b : ℕ) → is_no_line_end b ≡ true → ((b == 10) ≡ false)
+    × ((b == 13) ≡ false)
+no_line_end-is_neither_10_nor_13 b h = or_parts (b == 10) (b == 13)
+    (false_of_not ((b == 10) || (b == 13)) h)
 
-clear_at : (line : List ℕ) (k d : ℕ) → list_all clear line ≡ true → k < length line
-    → clear (get_or line k d) ≡ true
-clear_at [] k d all below = absurd (omega (arith, below))
-clear_at (b ∷ line) zero d all below = (and_parts (clear b) (list_all clear line) all).0
-clear_at (b ∷ line) (suc k) d all below =
-    clear_at line k d (and_parts (clear b) (list_all clear line) all).1 (omega (arith, below))
+no_line_end-at_index : (line : List ℕ) (k d : ℕ) → list_all is_no_line_end line ≡ true
+    → k < length line
+    → is_no_line_end (get_or line k d) ≡ true
+no_line_end-at_index [] k d all below = absurd (omega (arith, below))
+no_line_end-at_index (b ∷ line) zero d all below =
+    (and_parts (is_no_line_end b) (list_all is_no_line_end line) all).0
+no_line_end-at_index (b ∷ line) (suc k) d all below =
+    no_line_end-at_index line k d
+    (and_parts (is_no_line_end b) (list_all is_no_line_end line) all).1 (omega (arith, below))
 
-one_line : (line : List ℕ) → list_all clear line ≡ true → IsOneLine line
-one_line line all k d below = (clear_ends_no_line (get_or line k d) (clear_at line k d all below)).0
+one_line : (line : List ℕ) → list_all is_no_line_end line ≡ true → HasNoNewline line
+one_line line all k d below =
+    (no_line_end-is_neither_10_nor_13 (get_or line k d) (no_line_end-at_index line k d all below)).0
 
 -- All of such a line is read.
-trimmed-clear : (line : List ℕ) → begins line ≡ true → list_all clear line ≡ true
-    → trimmed line ≡ Some line
+trimmed-clear : (line : List ℕ) → begins_no_comment line ≡ true → list_all is_no_line_end line
+    ≡ true
+    → line_content_unless_comment line ≡ Some line
 trimmed-clear [] first all = absurd (search (first, rules))
 trimmed-clear (b ∷ line) first all =
     let mark : (b == 35) ≡ false = false_of_not (b == 35) first in
     let last : length (b ∷ line) - 1 < length (b ∷ line) = omega arith in
     let end : (get_or (b ∷ line) (length (b ∷ line) - 1) 0 == 13) ≡ false =
-    (clear_ends_no_line _ (clear_at (b ∷ line) (length (b ∷ line) - 1) 0 all last)).1 in
+    (no_line_end-is_neither_10_nor_13 _
+    (no_line_end-at_index (b ∷ line) (length (b ∷ line) - 1) 0 all last)).1 in
     rw (mark, end) refl
 
 -- ---- an entry
 
 -- The line of this entry is read, and the entry is accepted.
-record Readable (c : Options) (input : Bool) (e : Line) : Type 0 where
+record LineIsReadable (c : Options) (input : Bool) (e : Line) : Type 0 where
   writable : IsWritable e
   marked : e.style ≢ Bare
   algorithm : is_tagged e.style ≡ false → c.algorithm ≡ e.algorithm
   accepted : checkable c input (Some e) ≡ Ok e
 
-line_item : (c : Options) (input : Bool) (s : Spacing) (e : Line) → Readable c input e → s ≢ One
+item-of_readable_line : (c : Options) (input : Bool) (s : Spacing) (e : Line)
+    → LineIsReadable c input e → s ≢ One
     → item c input s (entry_line e) ≡ Some (Ok e)
-line_item c input s e r two =
+item-of_readable_line c input s e r two =
     ap (option_map (λ (body : List ℕ). checkable c input (line_entry c.algorithm s body)))
-    (trimmed-clear (entry_line e) (line_begins e r.writable) (line_clear e r.writable))
+    (trimmed-clear (entry_line e) (entry_line-begins_no_comment e r.writable)
+    (entry_line-has_no_line_end e r.writable))
     ∙ ap (λ (o : Option Line). Some (checkable c input o))
-    (entry_read_by e r.writable r.marked c.algorithm r.algorithm s (λ _. two))
+    (entry_line-is_read_with_algorithm e r.writable r.marked c.algorithm r.algorithm s (λ _. two))
     ∙ ap (λ (o : Result Line Verdict). Some o) r.accepted
 
-two_after : (s : Spacing) (style : Style) → s ≢ One → style ≢ Bare → spacing_after s style ≢ One
-two_after s (Tagged needs) two marked = two
-two_after s Text two marked = λ is. grind (arith, is)
-two_after s Binary two marked = λ is. grind (arith, is)
-two_after s Bare two marked = absurd (marked refl)
+spacing_after_entry-not_one : (s : Spacing) (style : Style) → s ≢ One → style ≢ Bare
+    → spacing_after_entry s style ≢ One
+spacing_after_entry-not_one s (Tagged needs) two marked = two
+spacing_after_entry-not_one s Text two marked = λ is. grind (arith, is)
+spacing_after_entry-not_one s Binary two marked = λ is. grind (arith, is)
+spacing_after_entry-not_one s Bare two marked = absurd (marked refl)
 
 -- ---- a manifest
 
 -- The line of an entry is the first of those that are printed.
-lines_cut : (e : Line) (es : List Line) → IsWritable e
-    → lines_of (flat_map (ended_line false) (e ∷ es))
-    ≡ entry_line e ∷ lines_of (flat_map (ended_line false) es)
-lines_cut e es w =
-    ap lines_of (append_assoc (entry_line e) (10 ∷ []) (flat_map (ended_line false) es))
-    ∙ line_first (entry_line e) (flat_map (ended_line false) es)
-    (one_line (entry_line e) (line_clear e w))
+lines_of-printed_entries : (e : Line) (es : List Line) → IsWritable e
+    → lines_of (flat_map (terminated_line false) (e ∷ es))
+    ≡ entry_line e ∷ lines_of (flat_map (terminated_line false) es)
+lines_of-printed_entries e es w =
+    ap lines_of (append_assoc (entry_line e) (10 ∷ []) (flat_map (terminated_line false) es))
+    ∙ lines_of-line_and_rest (entry_line e) (flat_map (terminated_line false) es)
+    (one_line (entry_line e) (entry_line-has_no_line_end e w))
 
-lines_read : (c : Options) (input : Bool) (s : Spacing) (es : List Line)
-    → AllByRecursion (Readable c input) es → s ≢ One
-    → AreReadAs c input s (lines_of (flat_map (ended_line false) es)) es
-lines_read c input s [] all two = refl
-lines_read c input s (e ∷ es) all two =
-    let rest = lines_of (flat_map (ended_line false) es) in
-    ap (items c input s) (lines_cut e es all.0.writable)
-    ∙ ap (λ (i : Option (Result Line Verdict)). i ∷ items c input (spacing_past s i) rest)
-    (line_item c input s e all.0 two)
+printed_lines-are_read : (c : Options) (input : Bool) (s : Spacing) (es : List Line)
+    → AllByRecursion (LineIsReadable c input) es → s ≢ One
+    → LinesAreReadAsEntries c input s (lines_of (flat_map (terminated_line false) es)) es
+printed_lines-are_read c input s [] all two = refl
+printed_lines-are_read c input s (e ∷ es) all two =
+    let rest = lines_of (flat_map (terminated_line false) es) in
+    ap (items c input s) (lines_of-printed_entries e es all.0.writable)
+    ∙ ap (λ (i : Option (Result Line Verdict)). i ∷ items c input (spacing_after_line s i) rest)
+    (item-of_readable_line c input s e all.0 two)
     ∙ ap (λ (is : List (Option (Result Line Verdict))). Some (Ok e) ∷ is)
-    (lines_read c input (spacing_after s e.style) es all.1 (two_after s e.style two all.0.marked))
+    (printed_lines-are_read c input (spacing_after_entry s e.style) es all.1
+    (spacing_after_entry-not_one s e.style two all.0.marked))
 
-readable : (w : World) (c o : Options) (input : Bool) (name text : List ℕ) → AreReadable w o
-    → AcceptsPrinted c o → AreNames (input || c.input_is_key) (name ∷ [])
-    → Readable c input (entry_of w o name text)
-readable w c o input name text are accepts names =
+entry_of_file-is_readable : (w : World) (c o : Options) (input : Bool) (name text : List ℕ)
+    → OptionsAreReadable w o
+    → AcceptsPrinted c o → AreFileNames (input || c.input_is_key) (name ∷ [])
+    → LineIsReadable c input (entry_of w o name text)
+entry_of_file-is_readable w c o input name text are accepts names =
     let e = entry_of w o name text in
     let is = names 0 name (omega arith) in
     let long : length e.digest ≡ o.bytes = (are.digests text).1 in
@@ -141,193 +158,223 @@ readable w c o input name text are accepts names =
       accepted = rw is.2 (rw (demanded, accepts.needs, accepts.keyed) refl);
     }
 
-all_readable : (w : World) (c o : Options) (input : Bool) (names : List (List ℕ))
-    (old new : Streams) (found : List (Option Line)) → AreReadable w o → AcceptsPrinted c o
-    → AreNames (input || c.input_is_key) names → InTurn (IsEntry w o) names old new found
-    → AllByRecursion (Readable c input) (entries_in found)
-all_readable w c o input [] old new [] are accepts named done = tt
-all_readable w c o input [] old new (f ∷ found) are accepts named done = absurd done
-all_readable w c o input (name ∷ names) old new [] are accepts named done = absurd done
-all_readable w c o input (name ∷ names) old new (None ∷ found) are accepts named done =
-    all_readable w c o input names done.0 new found are accepts
+entries_of_files-are_readable : (w : World) (c o : Options) (input : Bool) (names : List (List ℕ))
+    (old new : Streams) (found : List (Option Line)) → OptionsAreReadable w o → AcceptsPrinted c o
+    → AreFileNames (input || c.input_is_key) names
+    → AreDoneInTurn (IsEntryOfFile w o) names old new found
+    → AllByRecursion (LineIsReadable c input) (present_entries found)
+entries_of_files-are_readable w c o input [] old new [] are accepts named done = tt
+entries_of_files-are_readable w c o input [] old new (f ∷ found) are accepts named done = absurd
+    done
+entries_of_files-are_readable w c o input (name ∷ names) old new [] are accepts named done = absurd
+    done
+entries_of_files-are_readable w c o input (name ∷ names) old new (None ∷ found) are accepts named
+    done =
+    entries_of_files-are_readable w c o input names done.0 new found are accepts
     (λ k d below. named (suc k) d (omega (arith, below))) done.2
-all_readable w c o input (name ∷ names) old new (Some e ∷ found) are accepts named done = (
-  subst (Readable c input) (sym done.1.2)
-      (readable w c o input name done.1.0 are accepts (λ k d below. first k d below)),
-  all_readable w c o input names done.0 new found are accepts
-      (λ k d below. named (suc k) d (omega (arith, below))) done.2,
-)
+entries_of_files-are_readable w c o input (name ∷ names) old new (Some e ∷ found) are accepts named
+    done = (
+      subst (LineIsReadable c input) (sym done.1.2)
+          (entry_of_file-is_readable w c o input name done.1.0 are accepts
+          (λ k d below. first k d below)),
+      entries_of_files-are_readable w c o input names done.0 new found are accepts
+          (λ k d below. named (suc k) d (omega (arith, below))) done.2,
+    )
   where
-    first : AreNames (input || c.input_is_key) (name ∷ [])
+    first : AreFileNames (input || c.input_is_key) (name ∷ [])
     first zero d below = named 0 d (omega arith)
     first (suc k) d below = absurd (omega (arith, below))
 
 -- ---- files that are the same
 
 -- The text of a file whose bytes are known.
-same_text : (dash : Bool) (held left after : Option (List ℕ)) (text bytes : List ℕ)
-    → dash ≡ false → held ≡ Some bytes → ReadsAs dash held left after text → text ≡ bytes
-same_text true held left after text bytes other is read = absurd (grind (arith, other))
-same_text false held left after text bytes other is read =
-    let gives : GivesAll (Some bytes) read.1 text =
-    subst (λ (h : Option (List ℕ)). GivesAll h read.1 text) is read.2 in
+known_file-has_text : (dash : Bool) (held left after : Option (List ℕ)) (text bytes : List ℕ)
+    → dash ≡ false → held ≡ Some bytes → SourceHasText dash held left after text → text ≡ bytes
+known_file-has_text true held left after text bytes other is read = absurd (grind (arith, other))
+known_file-has_text false held left after text bytes other is read =
+    let gives : ReturnsAllBytes (Some bytes) read.1 text =
+    subst (λ (h : Option (List ℕ)). ReturnsAllBytes h read.1 text) is read.2 in
     Consumes-all (Some bytes) read.1 text [] text gives.given gives.at_end refl
 
 -- Two texts of a file whose bytes are known are the same.
-same_texts : (dash : Bool) (held a b c d : Option (List ℕ)) (x y : List ℕ) → dash ≡ false
-    → is_some held ≡ true → ReadsAs dash held a b x → ReadsAs dash held c d y → x ≡ y
-same_texts dash None a b c d x y other known first second = absurd (search (known, rules))
-same_texts dash (Some bytes) a b c d x y other known first second =
-    same_text dash (Some bytes) a b x bytes other refl first
-    ∙ sym (same_text dash (Some bytes) c d y bytes other refl second)
+known_file-has_one_text : (dash : Bool) (held a b c d : Option (List ℕ)) (x y : List ℕ) → dash
+    ≡ false
+    → is_some held ≡ true → SourceHasText dash held a b x → SourceHasText dash held c d y → x ≡ y
+known_file-has_one_text dash None a b c d x y other known first second = absurd
+    (search (known, rules))
+known_file-has_one_text dash (Some bytes) a b c d x y other known first second =
+    known_file-has_text dash (Some bytes) a b x bytes other refl first
+    ∙ sym (known_file-has_text dash (Some bytes) c d y bytes other refl second)
 
 -- The file of an entry is the same as when that was printed.
-record Kept (w : World) (c : Options) (e : Line) : Type 0 where
+record FileIsUnchanged (w : World) (c : Options) (e : Line) : Type 0 where
   same : (left after : Option (List ℕ)) (text : List ℕ)
-      → ReadsAs (is_standard_input e.name) (w.files.holds e.name) left after text
-      → w.hashing.digest c (listed_function e) text ≡ e.digest
+      → SourceHasText (is_standard_input e.name) (w.files.holds e.name) left after text
+      → w.hashing.digest c (function_of_line_entry e) text ≡ e.digest
 
-kept_entry : (w : World) (c o : Options) (name text : List ℕ) (old new : Option (List ℕ))
-    → AreReadable w o → HaveSameDigests w c o
+entry_of_file-is_unchanged : (w : World) (c o : Options) (name text : List ℕ)
+    (old new : Option (List ℕ))
+    → OptionsAreReadable w o → HaveSameDigests w c o
     → (is_standard_input name ≡ false) × (is_some (w.files.holds name) ≡ true)
-    → ReadsAs (is_standard_input name) (w.files.holds name) old new text → Kept w c (entry_of w o name text)
-kept_entry w c o name text old new are same is read = record {
-  same = λ left after again other. same (listed_function (entry_of w o name text)) again
+    → SourceHasText (is_standard_input name) (w.files.holds name) old new text
+    → FileIsUnchanged w c (entry_of w o name text)
+entry_of_file-is_unchanged w c o name text old new are same is read = record {
+  same = λ left after again other. same (function_of_line_entry (entry_of w o name text)) again
       ∙ ap (λ (n : ℕ). w.hashing.digest o (record { algorithm = o.algorithm; bytes = n }) again)
       (are.digests text).1
       ∙ ap (w.hashing.digest o (printed_function o))
-      (same_texts (is_standard_input name) (w.files.holds name) left after old new again text is.0 is.1 other
+      (known_file-has_one_text (is_standard_input name) (w.files.holds name) left after old new
+      again text is.0 is.1 other
       read);
 }
 
-all_kept : (w : World) (c o : Options) (names : List (List ℕ)) (old new : Streams)
-    (found : List (Option Line)) → AreReadable w o → HaveSameDigests w c o → AreKept w names
-    → InTurn (IsEntry w o) names old new found
-    → AllByRecursion (Kept w c) (entries_in found)
-all_kept w c o [] old new [] are same kept done = tt
-all_kept w c o [] old new (f ∷ found) are same kept done = absurd done
-all_kept w c o (name ∷ names) old new [] are same kept done = absurd done
-all_kept w c o (name ∷ names) old new (None ∷ found) are same kept done =
-    all_kept w c o names done.0 new found are same
+entries_of_files-are_unchanged : (w : World) (c o : Options) (names : List (List ℕ))
+    (old new : Streams)
+    (found : List (Option Line)) → OptionsAreReadable w o → HaveSameDigests w c o
+    → FilesHaveKnownBytes w names
+    → AreDoneInTurn (IsEntryOfFile w o) names old new found
+    → AllByRecursion (FileIsUnchanged w c) (present_entries found)
+entries_of_files-are_unchanged w c o [] old new [] are same kept done = tt
+entries_of_files-are_unchanged w c o [] old new (f ∷ found) are same kept done = absurd done
+entries_of_files-are_unchanged w c o (name ∷ names) old new [] are same kept done = absurd done
+entries_of_files-are_unchanged w c o (name ∷ names) old new (None ∷ found) are same kept done =
+    entries_of_files-are_unchanged w c o names done.0 new found are same
     (λ k d below. kept (suc k) d (omega (arith, below))) done.2
-all_kept w c o (name ∷ names) old new (Some e ∷ found) are same kept done = (
-  subst (Kept w c) (sym done.1.2) (kept_entry w c o name done.1.0 old.left done.0.left are same
+entries_of_files-are_unchanged w c o (name ∷ names) old new (Some e ∷ found) are same kept done = (
+  subst (FileIsUnchanged w c) (sym done.1.2)
+      (entry_of_file-is_unchanged w c o name done.1.0 old.left done.0.left are same
       (kept 0 name (omega arith)) done.1.1),
-  all_kept w c o names done.0 new found are same
+  entries_of_files-are_unchanged w c o names done.0 new found are same
       (λ k d below. kept (suc k) d (omega (arith, below))) done.2,
 )
 
-verdict_kept : (w : World) (c : Options) (left after : Option (List ℕ)) (e : Line) (v : Verdict)
-    (found : List ℕ) → Kept w c e → IsVerdict w c left (Ok e) v found after → is_kept v ≡ true
-verdict_kept w c left after e Equal found kept is = refl
-verdict_kept w c left after e Different found kept is =
+unchanged_file-has_kept_verdict : (w : World) (c : Options) (left after : Option (List ℕ))
+    (e : Line) (v : Verdict)
+    (found : List ℕ) → FileIsUnchanged w c e → VerdictIsRight w c left (Ok e) v found after
+    → is_equal_or_unread v ≡ true
+unchanged_file-has_kept_verdict w c left after e Equal found kept is = refl
+unchanged_file-has_kept_verdict w c left after e Different found kept is =
     absurd (is.3 (is.2 ∙ kept.same left after is.0 is.1))
-verdict_kept w c left after e Unread found kept is = refl
-verdict_kept w c left after e Skipped found kept is = refl
-verdict_kept w c left after e Malformed found kept is = absurd is
-verdict_kept w c left after e (Unmet lacks) found kept is = absurd is
-verdict_kept w c left after e Comment found kept is = absurd is
+unchanged_file-has_kept_verdict w c left after e Unread found kept is = refl
+unchanged_file-has_kept_verdict w c left after e Skipped found kept is = refl
+unchanged_file-has_kept_verdict w c left after e Malformed found kept is = absurd is
+unchanged_file-has_kept_verdict w c left after e (Unmet lacks) found kept is = absurd is
+unchanged_file-has_kept_verdict w c left after e Comment found kept is = absurd is
 
 -- The lines of entries whose files are the same have verdicts that say so.
-verdicts_kept : (w : World) (c : Options) (input : Bool) (es : List Line) (lines : List (List ℕ))
-    (before after : Streams) (vs : List Verdict) → AllByRecursion (Readable c input) es
-    → AllByRecursion (Kept w c) es → before.place.spacing ≢ One
-    → lines ≡ lines_of (flat_map (ended_line false) es)
-    → InTurn (IsLine w c input) lines before after vs
-    → (list_all is_kept vs ≡ true) × (length vs ≡ length es)
-verdicts_kept w c input [] lines before after vs all kept two are done =
-    none vs (subst (λ (xs : List (List ℕ)). InTurn (IsLine w c input) xs before after vs) are done)
+unchanged_files-have_kept_verdicts : (w : World) (c : Options) (input : Bool) (es : List Line)
+    (lines : List (List ℕ))
+    (before after : Streams) (vs : List Verdict) → AllByRecursion (LineIsReadable c input) es
+    → AllByRecursion (FileIsUnchanged w c) es → before.place.spacing ≢ One
+    → lines ≡ lines_of (flat_map (terminated_line false) es)
+    → AreDoneInTurn (LineIsChecked w c input) lines before after vs
+    → (list_all is_equal_or_unread vs ≡ true) × (length vs ≡ length es)
+unchanged_files-have_kept_verdicts w c input [] lines before after vs all kept two are done =
+    none vs (subst
+    (λ (xs : List (List ℕ)). AreDoneInTurn (LineIsChecked w c input) xs before after vs) are
+    done)
   where
-    none : (vs : List Verdict) → InTurn (IsLine w c input) [] before after vs
-        → (list_all is_kept vs ≡ true) × (length vs ≡ 0)
+    none : (vs : List Verdict) → AreDoneInTurn (LineIsChecked w c input) [] before after vs
+        → (list_all is_equal_or_unread vs ≡ true) × (length vs ≡ 0)
     none [] done = (refl, refl)
     none (v ∷ vs) done = absurd done
-verdicts_kept w c input (e ∷ es) lines before after vs all kept two are done =
-    some vs (subst (λ (xs : List (List ℕ)). InTurn (IsLine w c input) xs before after vs)
-    (are ∙ lines_cut e es all.0.writable) done)
-    (λ ws mid spaced rest. verdicts_kept w c input es
-    (lines_of (flat_map (ended_line false) es)) mid after ws all.1 kept.1 spaced refl rest)
+unchanged_files-have_kept_verdicts w c input (e ∷ es) lines before after vs all kept two are done =
+    some vs (subst
+    (λ (xs : List (List ℕ)). AreDoneInTurn (LineIsChecked w c input) xs before after vs)
+    (are ∙ lines_of-printed_entries e es all.0.writable) done)
+    (λ ws mid spaced rest. unchanged_files-have_kept_verdicts w c input es
+    (lines_of (flat_map (terminated_line false) es)) mid after ws all.1 kept.1 spaced refl rest)
   where
     some : (vs : List Verdict)
-        → InTurn (IsLine w c input)
-        (entry_line e ∷ lines_of (flat_map (ended_line false) es)) before after vs
+        → AreDoneInTurn (LineIsChecked w c input)
+        (entry_line e ∷ lines_of (flat_map (terminated_line false) es)) before after vs
         → ((ws : List Verdict) (mid : Streams) → mid.place.spacing ≢ One
-        → InTurn (IsLine w c input) (lines_of (flat_map (ended_line false) es)) mid after ws
-        → (list_all is_kept ws ≡ true) × (length ws ≡ length es))
-        → (list_all is_kept vs ≡ true) × (length vs ≡ length (e ∷ es))
+        → AreDoneInTurn (LineIsChecked w c input) (lines_of (flat_map (terminated_line false) es))
+        mid after ws
+        → (list_all is_equal_or_unread ws ≡ true) × (length ws ≡ length es))
+        → (list_all is_equal_or_unread vs ≡ true) × (length vs ≡ length (e ∷ es))
     some [] done again = absurd done
     some (v ∷ vs) done again =
-        let is : IsItem w c (entry_line e) (Some (Ok e)) before done.0 v =
-        subst (λ (i : Option (Result Line Verdict)). IsItem w c (entry_line e) i before done.0 v)
-        (line_item c input before.place.spacing e all.0 two) done.1 in
+        let is : ItemIsChecked w c (entry_line e) (Some (Ok e)) before done.0 v =
+        subst (λ (i : Option (Result Line Verdict)). ItemIsChecked w c (entry_line e) i before
+        done.0 v)
+        (item-of_readable_line c input before.place.spacing e all.0 two) done.1 in
         let spaced : done.0.place.spacing ≢ One =
-        λ one. two_after before.place.spacing e.style two all.0.marked (sym (ap (λ (p : Place). p.spacing) is.0) ∙ one) in
+        λ one. spacing_after_entry-not_one before.place.spacing e.style two all.0.marked
+        (sym (ap (λ (p : Place). p.spacing) is.0) ∙ one) in
         let rest = again vs done.0 spaced done.2 in
-        let one : is_kept v ≡ true =
-        verdict_kept w c before.left done.0.left e v is.1.0 kept.0 is.1.1 in
+        let one : is_equal_or_unread v ≡ true =
+        unchanged_file-has_kept_verdict w c before.left done.0.left e v is.1.0 kept.0 is.1.1 in
         (rw one rest.0, ap suc rest.1)
 
 -- ---- what is printed
 
 -- The entries of the files that were read, and what is printed of them.
-record Found (w : World) (o : Options) (names : List (List ℕ)) (old new : Streams)
+record EntriesArePrinted (w : World) (o : Options) (names : List (List ℕ)) (old new : Streams)
     (each : List Bool) : Type 0 where
   found : List (Option Line)
-  are_entries : InTurn (IsEntry w o) names old new found
+  are_entries : AreDoneInTurn (IsEntryOfFile w o) names old new found
   all : list_all (λ well. well) each ≡ list_all is_some found
-  printed : Appends old.held new.held (flat_map (ended_line false) (entries_in found))
+  printed : Appends old.held new.held (flat_map (terminated_line false) (present_entries found))
 
-printed_entries : (w : World) (o : Options) (names : List (List ℕ)) (old new : Streams) (each : List Bool)
-    → o.shape ≡ Named → o.ends_zero ≡ false → InTurn (Ends (IsSum w o)) names old new each
-    → Found w o names old new each
-printed_entries w o [] old new [] shape ends done = record {
+printed_lines-are_of_entries : (w : World) (o : Options) (names : List (List ℕ)) (old new : Streams)
+    (each : List Bool)
+    → o.shape ≡ Named → o.ends_zero ≡ false
+    → AreDoneInTurn (EndsWithResult (DigestLineIsPrinted w o)) names old new each
+    → EntriesArePrinted w o names old new each
+printed_lines-are_of_entries w o [] old new [] shape ends done = record {
   found = [];
   are_entries = done;
   all = refl;
   printed = subst (λ (s : Streams). Appends old.held s.held []) (sym done) (Appends-nil old.held);
 }
-printed_entries w o [] old new (well ∷ each) shape ends done = absurd done
-printed_entries w o (name ∷ names) old new [] shape ends done = absurd done
-printed_entries w o (name ∷ names) old new (true ∷ each) shape ends done =
-    let rest = printed_entries w o names done.0 new each shape ends done.2 in
+printed_lines-are_of_entries w o [] old new (well ∷ each) shape ends done = absurd done
+printed_lines-are_of_entries w o (name ∷ names) old new [] shape ends done = absurd done
+printed_lines-are_of_entries w o (name ∷ names) old new (true ∷ each) shape ends done =
+    let rest = printed_lines-are_of_entries w o names done.0 new each shape ends done.2 in
     let e = entry_of w o name done.1.0.0 in
     record {
       found = Some e ∷ rest.found;
       are_entries = (done.0, (done.1.0.0, done.1.0.1, refl), rest.are_entries);
       all = rest.all;
-      printed = Appends-trans old.held done.0.held new.held (ended_line false e) _
+      printed = Appends-trans old.held done.0.held new.held (terminated_line false e) _
           (subst (λ (shape : Shape). Appends old.held done.0.held (printed shape false e)) shape
           (subst (λ (zero : Bool). Appends old.held done.0.held (printed o.shape zero e)) ends
           done.1.0.2)) rest.printed;
     }
-printed_entries w o (name ∷ names) old new (false ∷ each) shape ends done =
-    let rest = printed_entries w o names done.0 new each shape ends done.2 in
+printed_lines-are_of_entries w o (name ∷ names) old new (false ∷ each) shape ends done =
+    let rest = printed_lines-are_of_entries w o names done.0 new each shape ends done.2 in
     record {
       found = None ∷ rest.found;
       are_entries = (done.0, done.1, rest.are_entries);
       all = refl;
       printed = subst (λ (held : Option (List ℕ)). Appends held new.held
-          (flat_map (ended_line false) (entries_in rest.found))) done.1.1 rest.printed;
+          (flat_map (terminated_line false) (present_entries rest.found))) done.1.1 rest.printed;
     }
 
 -- What is printed for files is a manifest.
-pub manifest_printed : (w : World) (o : Options) (names : List (List ℕ)) (old new : Streams)
+pub printed_sums-are_manifest : (w : World) (o : Options) (names : List (List ℕ))
+    (old new : Streams)
     {E : Type 0} (r : Result Bool E) → o.shape ≡ Named → o.ends_zero ≡ false
-    → AllInTurn (IsSum w o) names old new (result_ok r)
-    → IfOk r (IsManifest w o names old new)
-manifest_printed w o names old new (Ok are_read) shape ends done =
-    let all = printed_entries w o names old new done.0 shape ends done.1 in
+    → NamesAreDoneInTurn (DigestLineIsPrinted w o) names old new (result_ok r)
+    → IfOk r (ManifestIsPrinted w o names old new)
+printed_sums-are_manifest w o names old new (Ok are_read) shape ends done =
+    let all = printed_lines-are_of_entries w o names old new done.0 shape ends done.1 in
     record {
       found = all.found;
       are_entries = all.are_entries;
       all = done.2 ∙ all.all;
-      text = flat_map (ended_line false) (entries_in all.found);
+      text = flat_map (terminated_line false) (present_entries all.found);
       printed = all.printed;
-      read_back = λ c input s are accepts named two. lines_read c input s (entries_in all.found)
-          (all_readable w c o input names old new all.found are accepts named all.are_entries) two;
+      read_back = λ c input s are accepts named two. printed_lines-are_read c input s
+          (present_entries all.found)
+          (entries_of_files-are_readable w c o input names old new all.found are accepts named
+          all.are_entries) two;
       kept = λ c input before after vs are accepts same named kept two checked.
-          verdicts_kept w c input (entries_in all.found) _ before after vs
-          (all_readable w c o input names old new all.found are accepts named all.are_entries)
-          (all_kept w c o names old new all.found are same kept all.are_entries) two refl checked;
+          unchanged_files-have_kept_verdicts w c input (present_entries all.found) _ before after vs
+          (entries_of_files-are_readable w c o input names old new all.found are accepts named
+          all.are_entries)
+          (entries_of_files-are_unchanged w c o names old new all.found are same kept
+          all.are_entries) two refl checked;
     }
-manifest_printed w o names old new (Err e) shape ends done = tt
+printed_sums-are_manifest w o names old new (Err e) shape ends done = tt

@@ -4,9 +4,10 @@ use Rattle.std.proofs.lemmas.List.{take-append-drop, length-take-le}
 use Rattle.std.proofs.Math.Seq.{drop-append_seam}
 
 -- A text is two parts exactly if what comes after the first is the second.
-pub parts_of : (text above seal : List ℕ) (n : ℕ) → above ≡ take n text → n ≤ length text
+pub suffix_equal-iff_append : (text above seal : List ℕ) (n : ℕ) → above ≡ take n text
+    → n ≤ length text
     → (drop (length above) text ≡ seal) ↔ (text ≡ above ++ seal)
-parts_of text above seal n is fits = (
+suffix_equal-iff_append text above seal n is fits = (
   λ last.
       sym (take-append-drop n text) ∙ ap (λ xs. xs ++ drop n text) (sym is)
       ∙ ap (λ m. above ++ drop m text) (sym (ap length is ∙ length-take-le n text fits))

@@ -22,12 +22,12 @@ use Rattle.b2sum_commands.specs.CommandLine.{Choice, End, Refused, reading}
 use Rattle.b2sum_commands.specs.Messages.{is_standard_input}
 
 -- The algorithm has trees.
-abbrev pub has_trees : Algorithm → Bool
-has_trees Blake2b = true
-has_trees Blake2s = false
-has_trees Blake2bp = false
-has_trees Blake2sp = false
-has_trees (Tree leaf) = true
+abbrev pub supports_trees : Algorithm → Bool
+supports_trees Blake2b = true
+supports_trees Blake2s = false
+supports_trees Blake2bp = false
+supports_trees Blake2sp = false
+supports_trees (Tree leaf) = true
 
 -- The last of the options for a mode is `--text`.
 abbrev pub is_text_mode : Option Bool → Bool
@@ -51,12 +51,12 @@ abbrev pub has_length : Choice → Bool
 has_length c = nat_le c.bits (8 * max_bytes c.algorithm)
 
 -- Whether there are bytes.
-abbrev pub has_bytes : List ℕ → Bool
-has_bytes bytes = not (length bytes == 0)
+abbrev pub is_not_empty : List ℕ → Bool
+is_not_empty bytes = not (length bytes == 0)
 
 -- The algorithm has a salt and a persona of these lengths.
-abbrev pub has_labels : Choice → Bool
-has_labels c =
+abbrev pub salt_and_persona_fit : Choice → Bool
+salt_and_persona_fit c =
     nat_le (4 * length c.salt) (max_bytes c.algorithm)
     && (nat_le (4 * length c.persona) (max_bytes c.algorithm)
     && nat_le (4 * length c.persona_text) (max_bytes c.algorithm))
@@ -66,7 +66,7 @@ has_labels c =
 abbrev pub goes_with_tree : Choice → Bool
 goes_with_tree c =
     if is_none c.leaf then is_none c.threads || c.checks
-    else has_trees c.algorithm
+    else supports_trees c.algorithm
     && (is_none c.key_file && (c.checks || not (is_text_mode c.is_binary)))
 
 -- The options go with a check: none is only for digests that are printed. Under a key the digest of
@@ -83,12 +83,12 @@ goes_with_sums c =
     not c.ignores_missing && (prints_each_file c.report && (not c.is_strict && not c.shows_digests))
 
 -- There are not two personas.
-abbrev pub has_one_persona : Choice → Bool
-has_one_persona c = not (has_bytes c.persona && has_bytes c.persona_text)
+abbrev pub has_at_most_one_persona : Choice → Bool
+has_at_most_one_persona c = not (is_not_empty c.persona && is_not_empty c.persona_text)
 
 -- There is one file of a key, of bytes or of digits.
-abbrev pub has_one_key : Choice → Bool
-has_one_key c = not (c.key_is_raw && c.key_is_hex)
+abbrev pub has_at_most_one_key_file : Choice → Bool
+has_at_most_one_key_file c = not (c.key_is_raw && c.key_is_hex)
 
 -- The options go with a list that is sealed: its lines have tags, names and a key. A tree has no
 -- key. To be checked a sealed list needs a key too.
@@ -126,8 +126,8 @@ abbrev pub goes_with_task : Choice → Bool
 goes_with_task c =
     not (c.is_tagged && is_text_mode c.is_binary)
     && (not (c.is_tagged && (c.has_no_names || c.is_raw))
-    && (has_one_persona c
-    && (has_one_key c
+    && (has_at_most_one_persona c
+    && (has_at_most_one_key_file c
     && (goes_with_tree c && (if c.checks then goes_with_check c else goes_with_sums c)))))
 
 -- The options go together.
@@ -152,7 +152,7 @@ goes_with_files c files =
 -- The choice is accepted with these files.
 abbrev pub accepted : Choice → List (List ℕ) → Bool
 accepted c files =
-    has_length c && (goes_together c && (has_labels c && goes_with_files c files))
+    has_length c && (goes_together c && (salt_and_persona_fit c && goes_with_files c files))
 
 -- The algorithm, with the leaves of a tree.
 abbrev pub with_leaf : Algorithm → Option ℕ → Algorithm
@@ -163,13 +163,13 @@ with_leaf a (Some leaf) = Tree leaf
 abbrev pub chosen_needs : Choice → Needs
 chosen_needs c = record {
   key = is_some c.key_file;
-  salt = has_bytes c.salt;
-  personal = has_bytes c.persona || has_bytes c.persona_text;
+  salt = is_not_empty c.salt;
+  personal = is_not_empty c.persona || is_not_empty c.persona_text;
 }
 
 -- The persona: the text, if there is one.
 abbrev pub chosen_persona : Choice → List ℕ
-chosen_persona c = if has_bytes c.persona_text then c.persona_text else c.persona
+chosen_persona c = if is_not_empty c.persona_text then c.persona_text else c.persona
 
 -- What is printed of a digest.
 abbrev pub chosen_shape : Choice → Shape
@@ -184,7 +184,7 @@ chosen_style c =
 -- The options of a choice. The key is that of the key file, or none. A check demands a length of
 -- digests if one is given, and under a key, and an algorithm if one is given, or a tree. It is
 -- strict under a key.
-pub record AreOptions (c : Choice) (o : Options) : Type 0 where
+pub record OptionsMatchChoice (c : Choice) (o : Options) : Type 0 where
   pub algorithm : o.algorithm ≡ with_leaf c.algorithm c.leaf
   pub bytes : o.bytes ≡ (if c.bits == 0 then max_bytes c.algorithm else c.bits / 8)
   pub demands_length : o.demands_length ≡ (not (c.bits == 0) || is_some c.key_file)
@@ -211,18 +211,19 @@ pub record AreOptions (c : Choice) (o : Options) : Type 0 where
   pub shows_progress : o.shows_progress ≡ c.shows_progress
 
 -- A choice and files, if the choice is accepted.
-abbrev pub if_accepted : Result (Choice × List (List ℕ)) End → Result (Choice × List (List ℕ)) End
-if_accepted (Ok read) = if accepted read.0 read.1 then Ok read else Err Refused
-if_accepted (Err e) = Err e
+abbrev pub choice_if_accepted : Result (Choice × List (List ℕ)) End
+    → Result (Choice × List (List ℕ)) End
+choice_if_accepted (Ok read) = if accepted read.0 read.1 then Ok read else Err Refused
+choice_if_accepted (Err e) = Err e
 
 -- What a command line means, if its choice is accepted.
-abbrev pub command_line : List (List ℕ) → Result (Choice × List (List ℕ)) End
-command_line words = if_accepted (reading words)
+abbrev pub parsed_command_line : List (List ℕ) → Result (Choice × List (List ℕ)) End
+parsed_command_line words = choice_if_accepted (reading words)
 
 -- The arguments are those of this command line.
-pub record AreArguments (words : List (List ℕ)) (a : Arguments) : Type 0 where
+pub record ArgumentsMatchWords (words : List (List ℕ)) (a : Arguments) : Type 0 where
   pub choice : Choice
-  pub meaning : command_line words ≡ Ok (choice, map (λ name. name.items) a.files.items)
-  pub options : AreOptions choice a.options
+  pub meaning : parsed_command_line words ≡ Ok (choice, map (λ name. name.items) a.files.items)
+  pub options : OptionsMatchChoice choice a.options
   pub no_key : a.options.key.items ≡ []
   pub key_file : option_map (λ name. name.items) a.key_file ≡ choice.key_file

@@ -73,8 +73,8 @@ pub record Choice : Type 0 where
   pub is_sealed : Bool
 
 -- The choice of no options.
-abbrev pub no_choice : Choice
-no_choice = record {
+abbrev pub default_choice : Choice
+default_choice = record {
   algorithm = Blake2b;
   names_algorithm = false;
   leaf = None;
@@ -107,55 +107,58 @@ no_choice = record {
 -- ---- values
 
 -- The number, if it passes the test.
-abbrev pub passing : (ℕ → Bool) → Option ℕ → Option ℕ
-passing test None = None
-passing test (Some n) = if test n then Some n else None
+abbrev pub number_if_passing : (ℕ → Bool) → Option ℕ → Option ℕ
+number_if_passing test None = None
+number_if_passing test (Some n) = if test n then Some n else None
 
 -- A blank: a space, or a byte of 9 to 13, such as a tab or a newline.
 abbrev pub is_white_space : ℕ → Bool
 is_white_space b = (b == 32) || (nat_le 9 b && nat_lt b 14)
 
 -- A text without the blanks at its front.
-abbrev pub without_blanks : List ℕ → List ℕ
-without_blanks [] = []
-without_blanks (b ∷ text) = if is_white_space b then without_blanks text else b ∷ text
+abbrev pub without_leading_blanks : List ℕ → List ℕ
+without_leading_blanks [] = []
+without_leading_blanks (b ∷ text) = if is_white_space b then without_leading_blanks text else b ∷
+    text
 
 -- A text without one plus at its front.
-abbrev pub without_plus : List ℕ → List ℕ
-without_plus [] = []
-without_plus (b ∷ text) = if b == 43 then text else b ∷ text
+abbrev pub without_leading_plus : List ℕ → List ℕ
+without_leading_plus [] = []
+without_leading_plus (b ∷ text) = if b == 43 then text else b ∷ text
 
 -- The number of decimal digits that follow those of `n`.
-abbrev pub digits_after : ℕ → List ℕ → Option ℕ
-digits_after n [] = Some n
-digits_after n (d ∷ digits) =
-    if nat_le 48 d && nat_le d 57 then digits_after (n * 10 + (d - 48)) digits else None
+abbrev pub decimal_number_from : ℕ → List ℕ → Option ℕ
+decimal_number_from n [] = Some n
+decimal_number_from n (d ∷ digits) =
+    if nat_le 48 d && nat_le d 57 then decimal_number_from (n * 10 + (d - 48)) digits else None
 
 -- The number of one or more decimal digits.
 abbrev pub decimal_number : List ℕ → Option ℕ
 decimal_number [] = None
-decimal_number (d ∷ digits) = digits_after 0 (d ∷ digits)
+decimal_number (d ∷ digits) = decimal_number_from 0 (d ∷ digits)
 
 -- The number that a value writes, below 2^64. Blanks and a plus may be before its digits.
-abbrev pub number_in : List ℕ → Option ℕ
-number_in value =
-    passing (λ n. nat_lt n (2 ^ 64)) (decimal_number (without_plus (without_blanks value)))
+abbrev pub parsed_number : List ℕ → Option ℕ
+parsed_number value =
+    number_if_passing (λ n. nat_lt n (2 ^ 64))
+    (decimal_number (without_leading_plus (without_leading_blanks value)))
 
 -- The number of bits of a digest: a multiple of 8.
-abbrev pub bits_in : List ℕ → Option ℕ
-bits_in value = passing (λ n. n % 8 == 0) (number_in value)
+abbrev pub parsed_bit_length : List ℕ → Option ℕ
+parsed_bit_length value = number_if_passing (λ n. n % 8 == 0) (parsed_number value)
 
 -- The number of bytes of a leaf: 1 to 2^32 - 1.
-abbrev pub leaf_in : List ℕ → Option ℕ
-leaf_in value = passing (λ n. nat_lt 0 n && nat_lt n (2 ^ 32)) (number_in value)
+abbrev pub parsed_leaf_length : List ℕ → Option ℕ
+parsed_leaf_length value = number_if_passing (λ n. nat_lt 0 n && nat_lt n (2 ^ 32))
+    (parsed_number value)
 
 -- The number of threads, below 2^32.
-abbrev pub threads_in : List ℕ → Option ℕ
-threads_in value = passing (λ n. nat_lt n (2 ^ 32)) (number_in value)
+abbrev pub parsed_thread_count : List ℕ → Option ℕ
+parsed_thread_count value = number_if_passing (λ n. nat_lt n (2 ^ 32)) (parsed_number value)
 
 -- The algorithm of this name.
-abbrev pub algorithm_in : List ℕ → Option entry.Algorithm
-algorithm_in value =
+abbrev pub algorithm_of_name : List ℕ → Option entry.Algorithm
+algorithm_of_name value =
     if bytes_eq value (codes "blake2b") then Some Blake2b
     else if bytes_eq value (codes "blake2s") then Some Blake2s
     else if bytes_eq value (codes "blake2bp") then Some Blake2bp
@@ -167,29 +170,29 @@ abbrev pub is_zero : ℕ → Bool
 is_zero b = b == 0
 
 -- The bytes, if one of them is not zero. Zeros are the same as no salt and no personalization.
-abbrev pub not_zeros : Option (List ℕ) → Option (List ℕ)
-not_zeros None = None
-not_zeros (Some bytes) = if list_all is_zero bytes then None else Some bytes
+abbrev pub if_not_all_zeros : Option (List ℕ) → Option (List ℕ)
+if_not_all_zeros None = None
+if_not_all_zeros (Some bytes) = if list_all is_zero bytes then None else Some bytes
 
 -- The bytes that hexadecimal digits of either case write: not only zeros.
-abbrev pub bytes_in : List ℕ → Option (List ℕ)
-bytes_in [] = None
-bytes_in (digit ∷ digits) = not_zeros (result_ok (decode_of (digit ∷ digits)))
+abbrev pub nonzero_bytes_of_hex : List ℕ → Option (List ℕ)
+nonzero_bytes_of_hex [] = None
+nonzero_bytes_of_hex (digit ∷ digits) = if_not_all_zeros (result_ok (decode_of (digit ∷ digits)))
 
 -- The bytes, if they are at most those of the longest digest.
-abbrev pub not_too_long : Option (List ℕ) → Option (List ℕ)
-not_too_long None = None
-not_too_long (Some bytes) = if nat_le (length bytes) 64 then Some bytes else None
+abbrev pub if_not_too_long : Option (List ℕ) → Option (List ℕ)
+if_not_too_long None = None
+if_not_too_long (Some bytes) = if nat_le (length bytes) 64 then Some bytes else None
 
 -- The bytes of a digest, 1 to 64, which hexadecimal digits of either case write.
-abbrev pub digest_in : List ℕ → Option (List ℕ)
-digest_in [] = None
-digest_in (digit ∷ digits) = not_too_long (result_ok (decode_of (digit ∷ digits)))
+abbrev pub digest_of_hex_value : List ℕ → Option (List ℕ)
+digest_of_hex_value [] = None
+digest_of_hex_value (digit ∷ digits) = if_not_too_long (result_ok (decode_of (digit ∷ digits)))
 
 -- The bytes of a text: at least one.
-abbrev pub text_in : List ℕ → Option (List ℕ)
-text_in [] = None
-text_in (b ∷ bytes) = Some (b ∷ bytes)
+abbrev pub nonempty_text : List ℕ → Option (List ℕ)
+nonempty_text [] = None
+nonempty_text (b ∷ bytes) = Some (b ∷ bytes)
 
 -- ---- options
 
@@ -227,26 +230,31 @@ set_flag Tree c = Ok c
 set_flag Threads c = Ok c
 
 -- The choice with a value, which is refused if it is none.
-abbrev pub with_value : {A : Type 0} → Option A → (A → Choice) → Result Choice End
-with_value None choose = Err Refused
-with_value (Some value) choose = Ok (choose value)
+abbrev pub choose_or_refuse : {A : Type 0} → Option A → (A → Choice) → Result Choice End
+choose_or_refuse None choose = Err Refused
+choose_or_refuse (Some value) choose = Ok (choose value)
 
 -- The choice with one more option and its value.
 abbrev pub set_value : Flag → List ℕ → Choice → Result Choice End
 set_value Algorithm v c =
-    with_value (algorithm_in v) (λ a. record c { algorithm = a; names_algorithm = true })
-set_value Length v c = with_value (bits_in v) (λ n. record c { bits = n })
+    choose_or_refuse (algorithm_of_name v) (λ a. record c { algorithm = a; names_algorithm = true })
+set_value Length v c = choose_or_refuse (parsed_bit_length v) (λ n. record c { bits = n })
 set_value KeyFile v c = Ok (record c { key_file = Some v; key_is_raw = true })
 set_value KeyHexFile v c = Ok (record c { key_file = Some v; key_is_hex = true })
-set_value DeriveKey v c = with_value (text_in v) (λ text. record c { context = Some text })
+set_value DeriveKey v c = choose_or_refuse (nonempty_text v)
+    (λ text. record c { context = Some text })
 set_value Recursive v c = Ok (record c { folders = c.folders ++ v ∷ [] })
 set_value Expect v c =
-    with_value (digest_in v) (λ digest. record c { expected = Some digest; checks = true })
-set_value Personal v c = with_value (bytes_in v) (λ bytes. record c { persona = bytes })
-set_value PersonalText v c = with_value (text_in v) (λ bytes. record c { persona_text = bytes })
-set_value Salt v c = with_value (bytes_in v) (λ bytes. record c { salt = bytes })
-set_value Tree v c = with_value (leaf_in v) (λ n. record c { leaf = Some n })
-set_value Threads v c = with_value (threads_in v) (λ n. record c { threads = Some n })
+    choose_or_refuse (digest_of_hex_value v)
+    (λ digest. record c { expected = Some digest; checks = true })
+set_value Personal v c = choose_or_refuse (nonzero_bytes_of_hex v)
+    (λ bytes. record c { persona = bytes })
+set_value PersonalText v c = choose_or_refuse (nonempty_text v)
+    (λ bytes. record c { persona_text = bytes })
+set_value Salt v c = choose_or_refuse (nonzero_bytes_of_hex v) (λ bytes. record c { salt = bytes })
+set_value Tree v c = choose_or_refuse (parsed_leaf_length v) (λ n. record c { leaf = Some n })
+set_value Threads v c = choose_or_refuse (parsed_thread_count v)
+    (λ n. record c { threads = Some n })
 set_value Progress v c = Ok c
 set_value NoNames v c = Ok c
 set_value Raw v c = Ok c
@@ -301,14 +309,14 @@ pub data Next : Type 0 where
   OnlyFile : Next
 
 -- The choice, if there is one, and what the next word is.
-abbrev pub choosing : Next → Result Choice End → Result (Choice × Next) End
-choosing n (Ok c) = Ok (c, n)
-choosing n (Err e) = Err e
+abbrev pub choice_with_next_word : Next → Result Choice End → Result (Choice × Next) End
+choice_with_next_word n (Ok c) = Ok (c, n)
+choice_with_next_word n (Err e) = Err e
 
 -- An option whose value is these bytes, or the next word if there are none.
-abbrev pub value_or_next : Choice → Flag → List ℕ → Result (Choice × Next) End
-value_or_next c f [] = Ok (c, ValueOf f)
-value_or_next c f (b ∷ bytes) = choosing Anything (set_value f (b ∷ bytes) c)
+abbrev pub value_here_or_next_word : Choice → Flag → List ℕ → Result (Choice × Next) End
+value_here_or_next_word c f [] = Ok (c, ValueOf f)
+value_here_or_next_word c f (b ∷ bytes) = choice_with_next_word Anything (set_value f (b ∷ bytes) c)
 
 -- The letters of a word that one hyphen begins. After an option that has a value, the rest of the
 -- word is the value.
@@ -318,86 +326,90 @@ read_letters c (letter ∷ letters) =
     elim (letter_flag letter) [
       | None ↦ Err Refused
       | Some f ↦
-          if has_value f then value_or_next c f letters
+          if has_value f then value_here_or_next_word c f letters
           else elim (set_flag f c) [ Err e ↦ Err e | Ok d ↦ read_letters d letters ]
     ]
 
 -- A long option without a value in its word: the value is the next word, if it has one.
-abbrev pub read_switch : Choice → Option Flag → Result (Choice × Next) End
-read_switch c None = Err Refused
-read_switch c (Some f) = if has_value f then Ok (c, ValueOf f) else choosing Anything (set_flag f c)
+abbrev pub read_unjoined_option : Choice → Option Flag → Result (Choice × Next) End
+read_unjoined_option c None = Err Refused
+read_unjoined_option c (Some f) = if has_value f then Ok (c, ValueOf f) else choice_with_next_word
+    Anything (set_flag f c)
 
 -- A long option with a value in its word.
-abbrev pub read_option_with_value : Choice → Option Flag → List ℕ → Result (Choice × Next) End
-read_option_with_value c None value = Err Refused
-read_option_with_value c (Some f) value =
-    if has_value f then choosing Anything (set_value f value c) else Err Refused
+abbrev pub read_joined_option : Choice → Option Flag → List ℕ → Result (Choice × Next) End
+read_joined_option c None value = Err Refused
+read_joined_option c (Some f) value =
+    if has_value f then choice_with_next_word Anything (set_value f value c) else Err Refused
 
 -- A long option, cut at `=`.
-abbrev pub read_cut : Choice → List ℕ → Option (List ℕ × List ℕ) → Result (Choice × Next) End
-read_cut c word None = read_switch c (flag_named word)
-read_cut c word (Some cut) = read_option_with_value c (flag_named cut.0) cut.1
+abbrev pub read_split_option : Choice → List ℕ → Option (List ℕ × List ℕ)
+    → Result (Choice × Next) End
+read_split_option c word None = read_unjoined_option c (flag_named word)
+read_split_option c word (Some cut) = read_joined_option c (flag_named cut.0) cut.1
 
 -- The rest of a word that two hyphens begin: a name, or a name, `=` and a value.
-abbrev pub read_long : Choice → List ℕ → Result (Choice × Next) End
-read_long c word = read_cut c word (cut_at 61 word)
+abbrev pub read_long_option : Choice → List ℕ → Result (Choice × Next) End
+read_long_option c word = read_split_option c word (cut_at 61 word)
 
 -- What is read so far.
-pub record ReadWords : Type 0 where
+pub record CommandLineState : Type 0 where
   pub choice : Choice
   pub files : List (List ℕ)
   pub next : Next
 
 -- The state after an option. The files stay.
-abbrev pub with_option : ReadWords → Result (Choice × Next) End → Result ReadWords End
-with_option s (Ok read) = Ok (record { choice = read.0; files = s.files; next = read.1 })
-with_option s (Err e) = Err e
+abbrev pub state_after_option : CommandLineState → Result (Choice × Next) End
+    → Result CommandLineState End
+state_after_option s (Ok read) = Ok (record { choice = read.0; files = s.files; next = read.1 })
+state_after_option s (Err e) = Err e
 
 -- The state with one more file.
-abbrev pub with_file : ReadWords → List ℕ → ReadWords
-with_file s name = record s { files = s.files ++ name ∷ [] }
+abbrev pub state_with_file : CommandLineState → List ℕ → CommandLineState
+state_with_file s name = record s { files = s.files ++ name ∷ [] }
 
 -- A word that is not a value: `--`, a long option, letters, or a file. `-` alone is a file.
-abbrev pub read_option_or_file : ReadWords → List ℕ → Result ReadWords End
+abbrev pub read_option_or_file : CommandLineState → List ℕ → Result CommandLineState End
 read_option_or_file s word =
     if bytes_eq word (codes "--") then Ok (record s { next = OnlyFile })
     else if starts_with nat_eq word (codes "--")
-    then with_option s (read_long s.choice (drop 2 word))
+    then state_after_option s (read_long_option s.choice (drop 2 word))
     else if starts_with nat_eq word (codes "-") && not (bytes_eq word (codes "-"))
-    then with_option s (read_letters s.choice (drop 1 word))
-    else Ok (with_file s word)
+    then state_after_option s (read_letters s.choice (drop 1 word))
+    else Ok (state_with_file s word)
 
 -- A word, which is what the state says.
-abbrev pub read_next : Next → ReadWords → List ℕ → Result ReadWords End
-read_next Anything s word = read_option_or_file s word
-read_next (ValueOf f) s word = with_option s (choosing Anything (set_value f word s.choice))
-read_next OnlyFile s word = Ok (with_file s word)
+abbrev pub read_expected_word : Next → CommandLineState → List ℕ → Result CommandLineState End
+read_expected_word Anything s word = read_option_or_file s word
+read_expected_word (ValueOf f) s word = state_after_option s
+    (choice_with_next_word Anything (set_value f word s.choice))
+read_expected_word OnlyFile s word = Ok (state_with_file s word)
 
 -- Words from a state on.
-abbrev pub read_words : ReadWords → List (List ℕ) → Result ReadWords End
+abbrev pub read_words : CommandLineState → List (List ℕ) → Result CommandLineState End
 read_words s [] = Ok s
 read_words s (word ∷ words) =
-    elim (read_next s.next s word) [ Err e ↦ Err e | Ok t ↦ read_words t words ]
+    elim (read_expected_word s.next s word) [ Err e ↦ Err e | Ok t ↦ read_words t words ]
 
 -- The options name files: those of folders, whose lines are printed.
-abbrev pub names_files : Choice → Bool
-names_files c = not (length c.folders == 0) && not c.checks
+abbrev pub has_folders_to_print : Choice → Bool
+has_folders_to_print c = not (length c.folders == 0) && not c.checks
 
 -- The files, or `-` alone if there are none, and the options name none.
-abbrev pub or_standard_input : Bool → List (List ℕ) → List (List ℕ)
-or_standard_input named [] = if named then [] else codes "-" ∷ []
-or_standard_input named (name ∷ names) = name ∷ names
+abbrev pub files_or_standard_input : Bool → List (List ℕ) → List (List ℕ)
+files_or_standard_input named [] = if named then [] else codes "-" ∷ []
+files_or_standard_input named (name ∷ names) = name ∷ names
 
 -- The choice and the files at the end of the words. A value that is still to come is missing.
-abbrev pub ended : Next → ReadWords → Result (Choice × List (List ℕ)) End
-ended Anything s = Ok (s.choice, or_standard_input (names_files s.choice) s.files)
+abbrev pub ended : Next → CommandLineState → Result (Choice × List (List ℕ)) End
+ended Anything s = Ok (s.choice, files_or_standard_input (has_folders_to_print s.choice) s.files)
 ended (ValueOf f) s = Err Refused
-ended OnlyFile s = Ok (s.choice, or_standard_input (names_files s.choice) s.files)
+ended OnlyFile s = Ok (s.choice, files_or_standard_input (has_folders_to_print s.choice) s.files)
 
 -- What a command line means: a choice and files, or why it names no task.
 abbrev pub reading : List (List ℕ) → Result (Choice × List (List ℕ)) End
 reading words =
-    elim (read_words (record { choice = no_choice; files = []; next = Anything }) words) [
+    elim (read_words (record { choice = default_choice; files = []; next = Anything }) words) [
       | Err e ↦ Err e
       | Ok s ↦ ended s.next s
     ]

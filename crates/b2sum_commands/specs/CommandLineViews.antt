@@ -8,13 +8,13 @@ use Rattle.b2sum_commands.specs.declared.options.Stop.TheVariants.{Value}
 use Rattle.b2sum_commands.specs.declared.options.Next as next
 use Rattle.b2sum_commands.specs.declared.options.Next.TheVariants.{Any, Awaited, File}
 use Rattle.b2sum_commands.specs.World.{Streams, World}
-use Rattle.b2sum_commands.specs.ProgramRuns.{PrintsText, RefusesLine}
+use Rattle.b2sum_commands.specs.ProgramRuns.{PrintsText, RefusesCommandLine}
 use Rattle.b2sum_commands.specs.CommandLine.{Choice, End, Helped, Versioned, Refused}
-use Rattle.b2sum_commands.specs.CommandLine.{Next, Anything, ValueOf, OnlyFile, ReadWords}
+use Rattle.b2sum_commands.specs.CommandLine.{Next, Anything, ValueOf, OnlyFile, CommandLineState}
 
 -- The choice of the options that are read.
-abbrev pub choice_of : Reader → Choice
-choice_of r = record {
+abbrev pub choice_of_reader : Reader → Choice
+choice_of_reader r = record {
   algorithm = r.algorithm;
   names_algorithm = r.names_algorithm;
   leaf = r.leaf;
@@ -51,47 +51,47 @@ next_of (Awaited flag letter) = ValueOf flag
 next_of File = OnlyFile
 
 -- The state of the words that are read.
-abbrev pub read_words_of : Reader → List (List ℕ) → next.Next → ReadWords
-read_words_of r files n = record { choice = choice_of r; files = files; next = next_of n }
+abbrev pub state_of_reader : Reader → List (List ℕ) → next.Next → CommandLineState
+state_of_reader r files n = record { choice = choice_of_reader r; files = files; next = next_of n }
 
 -- The program stops for the reason of the definition, unless an allocation failed.
-abbrev pub StopsBy : {A : Type 0} → Result A End → stop.Stop → Type 0
-StopsBy r Help = r ≡ Err Helped
-StopsBy r Version = r ≡ Err Versioned
-StopsBy r (Usage line) = r ≡ Err Refused
-StopsBy r (Value first second) = r ≡ Err Refused
-StopsBy r NoMemory = ⊤
+abbrev pub StopMatchesResult : {A : Type 0} → Result A End → stop.Stop → Type 0
+StopMatchesResult r Help = r ≡ Err Helped
+StopMatchesResult r Version = r ≡ Err Versioned
+StopMatchesResult r (Usage line) = r ≡ Err Refused
+StopMatchesResult r (Value first second) = r ≡ Err Refused
+StopMatchesResult r NoMemory = ⊤
 
 -- A value is refused, or an allocation failed.
-abbrev pub IsRefusal : stop.Stop → Type 0
-IsRefusal Help = ⊥
-IsRefusal Version = ⊥
-IsRefusal (Usage line) = ⊤
-IsRefusal (Value first second) = ⊤
-IsRefusal NoMemory = ⊤
+abbrev pub IsRefusalOrNoMemory : stop.Stop → Type 0
+IsRefusalOrNoMemory Help = ⊥
+IsRefusalOrNoMemory Version = ⊥
+IsRefusalOrNoMemory (Usage line) = ⊤
+IsRefusalOrNoMemory (Value first second) = ⊤
+IsRefusalOrNoMemory NoMemory = ⊤
 
 -- The program stops since there is no value, unless an allocation failed.
-abbrev pub IsWrong : {A : Type 0} → Option A → stop.Stop → Type 0
-IsWrong o Help = ⊥
-IsWrong o Version = ⊥
-IsWrong o (Usage line) = o ≡ None
-IsWrong o (Value first second) = o ≡ None
-IsWrong o NoMemory = ⊤
+abbrev pub StopsSinceNoValue : {A : Type 0} → Option A → stop.Stop → Type 0
+StopsSinceNoValue o Help = ⊥
+StopsSinceNoValue o Version = ⊥
+StopsSinceNoValue o (Usage line) = o ≡ None
+StopsSinceNoValue o (Value first second) = o ≡ None
+StopsSinceNoValue o NoMemory = ⊤
 
 -- The program stops since the test is false, unless an allocation failed.
-abbrev pub IsUnfit : Bool → stop.Stop → Type 0
-IsUnfit test Help = ⊥
-IsUnfit test Version = ⊥
-IsUnfit test (Usage line) = test ≡ false
-IsUnfit test (Value first second) = test ≡ false
-IsUnfit test NoMemory = ⊤
+abbrev pub StopsSinceTestFails : Bool → stop.Stop → Type 0
+StopsSinceTestFails test Help = ⊥
+StopsSinceTestFails test Version = ⊥
+StopsSinceTestFails test (Usage line) = test ≡ false
+StopsSinceTestFails test (Value first second) = test ≡ false
+StopsSinceTestFails test NoMemory = ⊤
 
 -- What is printed if the program stops, with whether the command line is right: the help, the
 -- version, or only a message. There is no result if an error ended it.
-abbrev pub IsPrinted : World → List ℕ → List ℕ → Streams → Streams → stop.Stop → Option Bool
+abbrev pub StopIsPrinted : World → List ℕ → List ℕ → Streams → Streams → stop.Stop → Option Bool
     → Type 0
-IsPrinted w help version old new Help end = PrintsText help old new end
-IsPrinted w help version old new Version end = PrintsText version old new end
-IsPrinted w help version old new (Usage line) end = RefusesLine w old new end
-IsPrinted w help version old new (Value first second) end = RefusesLine w old new end
-IsPrinted w help version old new NoMemory end = (end ≡ None) × (new ≡ old)
+StopIsPrinted w help version old new Help end = PrintsText help old new end
+StopIsPrinted w help version old new Version end = PrintsText version old new end
+StopIsPrinted w help version old new (Usage line) end = RefusesCommandLine w old new end
+StopIsPrinted w help version old new (Value first second) end = RefusesCommandLine w old new end
+StopIsPrinted w help version old new NoMemory end = (end ≡ None) × (new ≡ old)

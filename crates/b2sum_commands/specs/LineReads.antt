@@ -8,27 +8,27 @@ use Rattle.b2sum_commands.specs.declared.line_reader.LineEnd.{LineEnd}
 use Rattle.b2sum_commands.specs.declared.line_reader.LineEnd.TheVariants.{Newline, Last, Failure}
 
 -- No byte is a newline.
-abbrev pub IsOneLine : List ℕ → Type 0
-IsOneLine line = All (λ b. (b == 10) ≡ false) line
+abbrev pub HasNoNewline : List ℕ → Type 0
+HasNoNewline line = All (λ b. (b == 10) ≡ false) line
 
 -- The line is cut off from what was unread and more bytes that were read, and what comes after its
 -- newline is unread. If no newline comes after it, nothing is.
-abbrev pub IsCutOff : LineEnd → List ℕ → List ℕ → List ℕ → List ℕ → Type 0
-IsCutOff Newline old more line new = IsOneLine line × (old ++ more ≡ line ++ (10 ∷ new))
-IsCutOff Last old more line new = IsOneLine line × (old ++ more ≡ line)
-IsCutOff Failure old more line new = IsOneLine line × (old ++ more ≡ line)
+abbrev pub LineIsCutOff : LineEnd → List ℕ → List ℕ → List ℕ → List ℕ → Type 0
+LineIsCutOff Newline old more line new = HasNoNewline line × (old ++ more ≡ line ++ (10 ∷ new))
+LineIsCutOff Last old more line new = HasNoNewline line × (old ++ more ≡ line)
+LineIsCutOff Failure old more line new = HasNoNewline line × (old ++ more ≡ line)
 
 -- Where a source is after a line: it has `rest` left, which is nothing if it is at its end. If a
 -- read failed, that is so, and what is left is not known.
-abbrev pub IsAfter : LineEnd → Option (List ℕ) → Option (List ℕ) → Type 0 → Type 0
-IsAfter Newline rest left failed = rest ≡ left
-IsAfter Last rest left failed = (rest ≡ left) × IsAtEnd left
-IsAfter Failure rest left failed = failed
+abbrev pub SourceIsAfterLine : LineEnd → Option (List ℕ) → Option (List ℕ) → Type 0 → Type 0
+SourceIsAfterLine Newline rest left failed = rest ≡ left
+SourceIsAfterLine Last rest left failed = (rest ≡ left) × IsAtEnd left
+SourceIsAfterLine Failure rest left failed = failed
 
 -- The name of a manifest: that of its file, or of standard input if it has none.
-abbrev pub source_name : {F : Type 0} → (F → List ℕ) → Option F → List ℕ
-source_name named None = 45 ∷ []
-source_name named (Some file) = named file
+abbrev pub source_name_or_dash : {F : Type 0} → (F → List ℕ) → Option F → List ℕ
+source_name_or_dash named None = 45 ∷ []
+source_name_or_dash named (Some file) = named file
 
 -- What is left of a manifest: of its file, or of standard input if it has none.
 abbrev pub source_left : {F : Type 0} → (F → Option (List ℕ)) → Option F → Option (List ℕ)
@@ -42,7 +42,7 @@ pub record IsOpenManifest {F : Type 0} (named : F → List ℕ) (left : F → Op
     (held input : Option (List ℕ)) (name : List ℕ) (file : Option F) (lines : List ℕ) : Type 0
   where
     pub is_input : is_none file ≡ is_standard_input name
-    pub is_named : source_name named file ≡ name
+    pub is_named : source_name_or_dash named file ≡ name
     pub unread : lines ≡ []
     pub whole : is_standard_input name ≡ false
         → IfSome held (λ _. source_left left file input ≡ held)

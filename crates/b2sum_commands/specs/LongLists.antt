@@ -3,10 +3,10 @@ use Rattle.std.specs.Prelude.{ℕ, ◌<◌, List, length, codes, Option}
 use Rattle.std.specs.Io.KnownBytes.{Consumes}
 
 -- A list has more bytes than these, and is not read.
-abbrev pub IsOverlong : Option (List ℕ) → ℕ → Type 0
-IsOverlong held most = (bytes : List ℕ) × (end : Option (List ℕ)) × Consumes held end bytes
+abbrev pub HasMoreBytesThan : Option (List ℕ) → ℕ → Type 0
+HasMoreBytesThan held most = (bytes : List ℕ) × (end : Option (List ℕ)) × Consumes held end bytes
     × (most < length bytes)
 
 -- Why a list is not read.
-abbrev pub long_reason : List ℕ
-long_reason = codes "the list has more than 268435456 bytes"
+abbrev pub list_too_long_reason : List ℕ
+list_too_long_reason = codes "the list has more than 268435456 bytes"

@@ -50,8 +50,8 @@ abbrev pub is_standard_input : List ℕ → Bool
 is_standard_input name = bytes_eq name (45 ∷ [])
 
 -- The name of a manifest in messages.
-abbrev pub title_of : List ℕ → List ℕ
-title_of name = quoted_name (if is_standard_input name then codes "standard input" else name)
+abbrev pub manifest_title : List ℕ → List ℕ
+manifest_title name = quoted_name (if is_standard_input name then codes "standard input" else name)
 
 -- The line of a text, if there is one.
 abbrev pub line_if_any : List ℕ → List ℕ → List ℕ
@@ -61,19 +61,21 @@ line_if_any program (b ∷ text) = line program (b ∷ text) [] []
 -- The lines of a message.
 abbrev pub message : List ℕ → Message → List ℕ
 message program (Cannot name reason) = line program (quoted_name name) (codes ": ") reason
-message program (BreaksOff name) = line program (title_of name) (codes ": ") (codes "read error")
-message program (Improper name n a) = line program (title_of name)
+message program (BreaksOff name) = line program (manifest_title name) (codes ": ")
+    (codes "read error")
+message program (Improper name n a) = line program (manifest_title name)
     (codes ": " ++ decimal n ++ codes ": improperly formatted " ++ tag a) (codes " checksum line")
-message program (Foreign name n) = line program (title_of name)
+message program (Foreign name n) = line program (manifest_title name)
     (codes ": " ++ decimal n) (codes ": checksum line of another algorithm")
 message program (LineNeeds name n lacks) =
-    line program (title_of name) (codes ": " ++ decimal n ++ codes ": needs") (lacks_text lacks)
+    line program (manifest_title name) (codes ": " ++ decimal n ++ codes ": needs")
+    (lacks_text lacks)
 message program (HasNoEntry name) =
-    line program (title_of name) (codes ": no properly formatted checksum lines found") []
+    line program (manifest_title name) (codes ": no properly formatted checksum lines found") []
 message program (LinesNeed name lacks) =
-    line program (title_of name) (codes ": lines need") (lacks_text lacks)
+    line program (manifest_title name) (codes ": lines need") (lacks_text lacks)
 message program (VerifiesNone name) =
-    line program (title_of name) (codes ": no file was verified") []
+    line program (manifest_title name) (codes ": no file was verified") []
 message program (HaveCount n one several) =
     line program (codes "WARNING: ") (decimal n) (if n == 1 then one else several)
 message program (Usage text) = line program text [] [] ++ (codes "Try '" ++ program

@@ -10,12 +10,12 @@ is_printable b = nat_le 32 b && nat_lt b 127
 
 -- A byte for which a name is quoted: one with a meaning for a shell, a colon, or one that is not
 -- printed.
-abbrev pub is_shell : ℕ → Bool
-is_shell b = list_any (λ x. x == b) (codes " !\"$&'()*:;<=>?[\\^`|") || not (is_printable b)
+abbrev pub is_shell_special : ℕ → Bool
+is_shell_special b = list_any (λ x. x == b) (codes " !\"$&'()*:;<=>?[\\^`|") || not (is_printable b)
 
 -- A byte with a meaning for a shell at the front of a name.
-abbrev pub is_mark : ℕ → Bool
-is_mark b = (b == 35) || (b == 126)
+abbrev pub is_special_at_front : ℕ → Bool
+is_special_at_front b = (b == 35) || (b == 126)
 
 -- A byte with a meaning for a shell if it is the whole name.
 abbrev pub is_brace : ℕ → Bool
@@ -29,7 +29,8 @@ is_lone_brace b (c ∷ rest) = false
 -- The name is quoted.
 abbrev pub needs_quotes : List ℕ → Bool
 needs_quotes [] = true
-needs_quotes (b ∷ rest) = is_mark b || (is_lone_brace b rest || list_any is_shell (b ∷ rest))
+needs_quotes (b ∷ rest) = is_special_at_front b
+    || (is_lone_brace b rest || list_any is_shell_special (b ∷ rest))
 
 -- A letter or a digit.
 abbrev pub is_alphanumeric : ℕ → Bool
@@ -37,17 +38,18 @@ is_alphanumeric b =
     (nat_le 48 b && nat_le b 57) || ((nat_le 65 b && nat_le b 90) || (nat_le 97 b && nat_le b 122))
 
 -- A byte that may be in a name between double quotes.
-abbrev pub is_plain : ℕ → Bool
-is_plain b = is_alphanumeric b || list_any (λ x. x == b) (codes " %'+,-./:]_")
+abbrev pub is_plain_in_double_quotes : ℕ → Bool
+is_plain_in_double_quotes b = is_alphanumeric b || list_any (λ x. x == b) (codes " %'+,-./:]_")
 
 -- The name may be between double quotes.
-abbrev pub are_plain : List ℕ → Bool
-are_plain [] = true
-are_plain (b ∷ rest) = (is_mark b || is_plain b) && list_all is_plain rest
+abbrev pub fits_double_quotes : List ℕ → Bool
+fits_double_quotes [] = true
+fits_double_quotes (b ∷ rest) = (is_special_at_front b || is_plain_in_double_quotes b)
+    && list_all is_plain_in_double_quotes rest
 
 -- The name is between double quotes: it has a single quote, and all its bytes are plain.
 abbrev pub takes_double_quotes : List ℕ → Bool
-takes_double_quotes name = list_any (λ b. b == 39) name && are_plain name
+takes_double_quotes name = list_any (λ b. b == 39) name && fits_double_quotes name
 
 -- The letter of a byte that has one: of 7 to 13.
 abbrev pub escape_letter : ℕ → ℕ
@@ -90,12 +92,12 @@ quoted_name name =
     else 39 ∷ (quoted_bytes false name ++ (39 ∷ []))
 
 -- A byte of a value: a quote and a backslash have a backslash before them.
-abbrev pub value_byte : ℕ → List ℕ
-value_byte b =
+abbrev pub escaped_value_byte : ℕ → List ℕ
+escaped_value_byte b =
     if (b == 39) || (b == 92) then 92 ∷ b ∷ []
     else if is_printable b then b ∷ []
     else escape_code b
 
 -- A value as messages have it.
 abbrev pub quoted_value : List ℕ → List ℕ
-quoted_value value = 39 ∷ (flat_map value_byte value ++ (39 ∷ []))
+quoted_value value = 39 ∷ (flat_map escaped_value_byte value ++ (39 ∷ []))

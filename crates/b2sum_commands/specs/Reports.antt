@@ -9,8 +9,9 @@ use Rattle.b2sum_commands.specs.declared.check.Verdict.TheVariants.{Skipped, Mal
 use Rattle.b2sum_commands.specs.declared.check.Verdict.TheVariants.{Comment}
 use Rattle.b2sum_commands.specs.declared.line_needs.Lacks.{Lacks}
 use Rattle.b2sum_commands.specs.declared.options.Options.{Options}
-use Rattle.b2sum_commands.specs.LineNeeds.{both_lack, no_lacks}
-use Rattle.b2sum_commands.specs.Manifests.{capped, is_different, is_equal, prints_nothing}
+use Rattle.b2sum_commands.specs.LineNeeds.{lacks_union, no_lacks}
+use Rattle.b2sum_commands.specs.Manifests.{capped_to_64_bits, is_different, is_equal}
+use Rattle.b2sum_commands.specs.Manifests.{prints_nothing}
 use Rattle.b2sum_commands.specs.Messages.{BreaksOff, HasNoEntry, HaveCount, LinesNeed}
 use Rattle.b2sum_commands.specs.Messages.{VerifiesNone, message, message_if}
 use Rattle.b2sum_commands.specs.World.{World, Streams, TellsText}
@@ -58,43 +59,43 @@ has_unmet_needs (Unmet lacks) = true
 has_unmet_needs Comment = false
 
 -- What lines lack, with one more that has this verdict.
-abbrev pub also_lack : Lacks → Verdict → Lacks
-also_lack l Equal = l
-also_lack l Different = l
-also_lack l Unread = l
-also_lack l Skipped = l
-also_lack l Malformed = l
-also_lack l (Unmet lacks) = both_lack l lacks
-also_lack l Comment = l
+abbrev pub lacks_with_verdict : Lacks → Verdict → Lacks
+lacks_with_verdict l Equal = l
+lacks_with_verdict l Different = l
+lacks_with_verdict l Unread = l
+lacks_with_verdict l Skipped = l
+lacks_with_verdict l Malformed = l
+lacks_with_verdict l (Unmet lacks) = lacks_union l lacks
+lacks_with_verdict l Comment = l
 
 -- The counts are those of verdicts.
-pub record AreCounted (vs : List Verdict) (counts : Counts) : Type 0 where
-  pub equal : counts.equal ≡ capped (count_by is_equal vs)
-  pub different : counts.different ≡ capped (count_by is_different vs)
-  pub unread : counts.unread ≡ capped (count_by is_unread vs)
-  pub skipped : counts.skipped ≡ capped (count_by is_skipped vs)
-  pub malformed : counts.malformed ≡ capped (count_by is_malformed vs)
-  pub unmet : counts.unmet ≡ capped (count_by has_unmet_needs vs)
-  pub lacks : counts.lacks ≡ fold also_lack no_lacks vs
+pub record CountsMatchVerdicts (vs : List Verdict) (counts : Counts) : Type 0 where
+  pub equal : counts.equal ≡ capped_to_64_bits (count_by is_equal vs)
+  pub different : counts.different ≡ capped_to_64_bits (count_by is_different vs)
+  pub unread : counts.unread ≡ capped_to_64_bits (count_by is_unread vs)
+  pub skipped : counts.skipped ≡ capped_to_64_bits (count_by is_skipped vs)
+  pub malformed : counts.malformed ≡ capped_to_64_bits (count_by is_malformed vs)
+  pub unmet : counts.unmet ≡ capped_to_64_bits (count_by has_unmet_needs vs)
+  pub lacks : counts.lacks ≡ fold lacks_with_verdict no_lacks vs
 
 -- A count with one more, if that is of its kind.
-abbrev pub more_if : Bool → ℕ → ℕ
-more_if true n = capped (n + 1)
-more_if false n = n
+abbrev pub incremented_if : Bool → ℕ → ℕ
+incremented_if true n = capped_to_64_bits (n + 1)
+incremented_if false n = n
 
 -- The counts with one more verdict.
-pub record Adds (v : Verdict) (old new : Counts) : Type 0 where
-  pub equal : new.equal ≡ more_if (is_equal v) old.equal
-  pub different : new.different ≡ more_if (is_different v) old.different
-  pub unread : new.unread ≡ more_if (is_unread v) old.unread
-  pub skipped : new.skipped ≡ more_if (is_skipped v) old.skipped
-  pub malformed : new.malformed ≡ more_if (is_malformed v) old.malformed
-  pub unmet : new.unmet ≡ more_if (has_unmet_needs v) old.unmet
-  pub lacks : new.lacks ≡ also_lack old.lacks v
+pub record CountsAddVerdict (v : Verdict) (old new : Counts) : Type 0 where
+  pub equal : new.equal ≡ incremented_if (is_equal v) old.equal
+  pub different : new.different ≡ incremented_if (is_different v) old.different
+  pub unread : new.unread ≡ incremented_if (is_unread v) old.unread
+  pub skipped : new.skipped ≡ incremented_if (is_skipped v) old.skipped
+  pub malformed : new.malformed ≡ incremented_if (is_malformed v) old.malformed
+  pub unmet : new.unmet ≡ incremented_if (has_unmet_needs v) old.unmet
+  pub lacks : new.lacks ≡ lacks_with_verdict old.lacks v
 
 -- A manifest holds by its counts: a file has its digest, and no line fails the check.
-abbrev pub holds_counted : Bool → Counts → Bool
-holds_counted strict c =
+abbrev pub manifest_holds_by_counts : Bool → Counts → Bool
+manifest_holds_by_counts strict c =
     nat_lt 0 c.equal
     && (((c.different == 0) && ((c.unread == 0) && (c.unmet == 0)))
     && (not strict || (c.malformed == 0)))
@@ -113,8 +114,8 @@ has_no_entry c =
     && ((c.different == 0) && ((c.unread == 0) && ((c.skipped == 0) && (c.unmet == 0))))
 
 -- The warnings of the counts.
-abbrev pub warnings : List ℕ → Counts → List ℕ
-warnings program c =
+abbrev pub count_warnings : List ℕ → Counts → List ℕ
+count_warnings program c =
     count_line program c.malformed (codes " line is improperly formatted")
     (codes " lines are improperly formatted")
     ++ (count_line program c.unmet (codes " line needs other options")
@@ -130,20 +131,21 @@ report_text program name o c =
     if has_no_entry c then message program (HasNoEntry name)
     else if prints_nothing o.report then []
     else message_if (not (c.unmet == 0)) program (LinesNeed name c.lacks)
-    ++ (warnings program c
+    ++ (count_warnings program c
     ++ message_if (o.ignores_missing && (c.equal == 0)) program (VerifiesNone name))
 
 -- The last messages of a manifest of this name are told, which holds or not: those of its counts,
 -- or, if there are none, that a read failed.
-abbrev pub TellsEnd : List ℕ → Options → List ℕ → Option Counts → Bool → (List ℕ → Type 0) → Type 0
-TellsEnd program o name None holds told =
+abbrev pub TellsManifestEnd : List ℕ → Options → List ℕ → Option Counts → Bool → (List ℕ → Type 0)
+    → Type 0
+TellsManifestEnd program o name None holds told =
     (holds ≡ false) × told (message program (BreaksOff name))
-TellsEnd program o name (Some c) holds told =
-    (holds ≡ holds_counted o.is_strict c) × told (report_text program name o c)
+TellsManifestEnd program o name (Some c) holds told =
+    (holds ≡ manifest_holds_by_counts o.is_strict c) × told (report_text program name o c)
 
 -- The messages of a manifest of this name, whose lines had these verdicts, are printed.
-pub record IsReported (w : World) (o : Options) (name : List ℕ) (vs : List Verdict)
+pub record ReportIsPrinted (w : World) (o : Options) (name : List ℕ) (vs : List Verdict)
     (old new : Streams) : Type 0 where
   pub counts : Counts
-  pub are_counted : AreCounted vs counts
+  pub are_counted : CountsMatchVerdicts vs counts
   pub told : TellsText old new (report_text w.program name o counts)

@@ -13,5 +13,5 @@ abbrev pub final_line : List ℕ → List ℕ
 final_line text = after_last 10 (take (length text - 1) text)
 
 -- What is above the last line of a text.
-abbrev pub above_last : List ℕ → List ℕ
-above_last text = take (length text - 1 - length (final_line text)) text
+abbrev pub above_last_line : List ℕ → List ℕ
+above_last_line text = take (length text - 1 - length (final_line text)) text

@@ -4,11 +4,11 @@ use Rattle.std.specs.Prelude.{◌++◌, length, Some, None}
 use Rattle.std.specs.Io.KnownBytes.{Appends, Consumes, IsAtEnd}
 use Rattle.std.specs.List.{list_all}
 use Rattle.std.specs.declared.io.Error.{Error}
-use Rattle.blake2_streams.specs.Streams.{TakesPart}
+use Rattle.blake2_streams.specs.Streams.{AcceptsProperPrefix}
 use Rattle.b2sum_lines.specs.declared.entry.Spacing.{Spacing}
 use Rattle.b2sum_commands.specs.declared.hashes.Function.{Function}
 use Rattle.b2sum_commands.specs.declared.options.Options.{Options}
-use Rattle.b2sum_commands.specs.KeyTexts.{key_in, key_room}
+use Rattle.b2sum_commands.specs.KeyTexts.{key_of_file_bytes, max_key_file_bytes}
 use Rattle.b2sum_commands.specs.Messages.{Message, NoMemory, WriteFailed, message}
 
 -- Files by their names: the bytes of a file, if that is known, the list of a folder's entries, if
@@ -50,13 +50,13 @@ pub record Streams : Type 0 where
 
 -- There is an open file of this name of which a read failed. Contracts say this of any type of open
 -- files, so the only way to show it is a read of the run's own.
-abbrev pub HasFailed : {F : Type 0} → (F → List ℕ) → (F → Bool) → List ℕ → Type 0
-HasFailed {F} named failed name = (file : F) × (named file ≡ name) × (failed file ≡ true)
+abbrev pub OpenFileHasFailed : {F : Type 0} → (F → List ℕ) → (F → Bool) → List ℕ → Type 0
+OpenFileHasFailed {F} named failed name = (file : F) × (named file ≡ name) × (failed file ≡ true)
 
 -- A read of an open file of this name returned this error.
-abbrev pub HasError : {F : Type 0} → (F → List ℕ) → (F → Bool) → (F → Option Error) → List ℕ
+abbrev pub OpenFileHasError : {F : Type 0} → (F → List ℕ) → (F → Bool) → (F → Option Error) → List ℕ
     → Error → Type 0
-HasError {F} named failed failure name e = (file : F) × (named file ≡ name)
+OpenFileHasError {F} named failed failure name e = (file : F) × (named file ≡ name)
     × (failed file ≡ true) × (failure file ≡ Some e)
 
 -- What a run finds: the name of the program, the files, the hash functions, and whether a read of
@@ -75,26 +75,28 @@ world_of program named failed failure files hashing = record {
   program = program;
   files = files;
   hashing = hashing;
-  breaks = HasFailed named failed;
-  fails = HasError named failed failure;
+  breaks = OpenFileHasFailed named failed;
+  fails = OpenFileHasError named failed failure;
 }
 
 -- All bytes of a file, which holds `held` if that is known, have this key of at most so many bytes.
 -- `hex` is that they are hexadecimal digits.
-pub record IsKey (held : Option (List ℕ)) (hex : Bool) (most : ℕ) (key : List ℕ) : Type 0 where
+pub record FileHasKey (held : Option (List ℕ)) (hex : Bool) (most : ℕ) (key : List ℕ) : Type 0 where
   pub bytes : List ℕ
   pub end : Option (List ℕ)
   pub given : Consumes held end bytes
   pub at_end : IsAtEnd end
-  pub has : key_in hex most bytes ≡ Some key
+  pub has : key_of_file_bytes hex most bytes ≡ Some key
 
 -- A file has no key: all its bytes have none, or it has more than a key file can have.
-abbrev pub IsNoKey : Option (List ℕ) → Bool → ℕ → Type 0
-IsNoKey held hex most = (bytes : List ℕ) × (end : Option (List ℕ)) × Consumes held end bytes
-    × ((IsAtEnd end × (key_in hex most bytes ≡ None)) ⊎ (key_room hex most < length bytes))
+abbrev pub FileHasNoKey : Option (List ℕ) → Bool → ℕ → Type 0
+FileHasNoKey held hex most = (bytes : List ℕ) × (end : Option (List ℕ)) × Consumes held end bytes
+    × ((IsAtEnd end × (key_of_file_bytes hex most bytes ≡ None))
+    ⊎ (max_key_file_bytes hex most < length bytes))
 
 -- A sink accepted a line after all others, or it has failed. A sink that has failed stays so.
-pub record IsWritten (was_failed is_failed : Bool) (old new : Option (List ℕ)) (line : List ℕ)
+pub record SinkAcceptsOrFails (was_failed is_failed : Bool) (old new : Option (List ℕ))
+    (line : List ℕ)
     : Type 0 where
   pub stays : was_failed ≡ true → is_failed ≡ true
   pub accepted : (is_failed ≡ true) ⊎ Appends old new line
@@ -102,11 +104,11 @@ pub record IsWritten (was_failed is_failed : Bool) (old new : Option (List ℕ))
 -- A text is told: the sink of messages accepted it, or it has failed.
 abbrev pub TellsText : Streams → Streams → List ℕ → Type 0
 TellsText old new text =
-    IsWritten old.messages_failed new.messages_failed old.told new.told text
+    SinkAcceptsOrFails old.messages_failed new.messages_failed old.told new.told text
 
 -- This is said.
-abbrev pub Tells : World → Streams → Streams → Message → Type 0
-Tells w old new said = TellsText old new (message w.program said)
+abbrev pub TellsMessage : World → Streams → Streams → Message → Type 0
+TellsMessage w old new said = TellsText old new (message w.program said)
 
 -- Only messages are told.
 abbrev pub OnlyTells : Streams → Streams → Type 0
@@ -114,8 +116,8 @@ OnlyTells old new =
     new ≡ record old { told = new.told; messages_failed = new.messages_failed }
 
 -- A sink accepted nothing, or a beginning of a text, and not all of it.
-abbrev pub StopsIn : Option (List ℕ) → Option (List ℕ) → List ℕ → Type 0
-StopsIn old new text = (new ≡ old) ⊎ TakesPart old new text
+abbrev pub AcceptsNothingOrPart : Option (List ℕ) → Option (List ℕ) → List ℕ → Type 0
+AcceptsNothingOrPart old new text = (new ≡ old) ⊎ AcceptsProperPrefix old new text
 
 -- The message of a write that failed with this error, with its text if there is memory for that.
 abbrev pub IsWriteError : Files → Error → Message → Type 0
@@ -123,30 +125,30 @@ IsWriteError files e said = (said ≡ WriteFailed None) ⊎ ((reason : List ℕ)
     × files.describes e reason × (said ≡ WriteFailed (Some reason)))
 
 -- Why an error ended a run: an allocation failed, or a write to the output, with that error.
-abbrev pub IsEndOf : World → Streams → Message → Type 0
-IsEndOf w s said = (said ≡ NoMemory) ⊎ ((s.output_failed ≡ true)
+abbrev pub IsCauseOfEnd : World → Streams → Message → Type 0
+IsCauseOfEnd w s said = (said ≡ NoMemory) ⊎ ((s.output_failed ≡ true)
     × (e : Error) × (s.output_error ≡ Some e) × IsWriteError w.files e said)
 
 -- An error ended a run, as one more message says. Nothing else is printed.
-pub record IsEnded (w : World) (old new : Streams) : Type 0 where
+pub record RunEndsWithError (w : World) (old new : Streams) : Type 0 where
   pub said : Message
-  pub cause : IsEndOf w new said
-  pub told : Tells w old new said
+  pub cause : IsCauseOfEnd w new said
+  pub told : TellsMessage w old new said
   pub held : new.held ≡ old.held
 
 -- Standard output, and the place in manifests, stay the same.
-pub record KeepsOutput (old new : Streams) : Type 0 where
+pub record KeepsOutputAndPlace (old new : Streams) : Type 0 where
   pub held : new.held ≡ old.held
   pub place : new.place ≡ old.place
 
 -- Something is done for each of these, one after the other, with these results.
-abbrev pub InTurn : {X Y : Type 0} → (X → Streams → Streams → Y → Type 0) → List X → Streams
+abbrev pub AreDoneInTurn : {X Y : Type 0} → (X → Streams → Streams → Y → Type 0) → List X → Streams
     → Streams → List Y → Type 0
-InTurn does [] old new [] = new ≡ old
-InTurn does [] old new (y ∷ ys) = ⊥
-InTurn does (x ∷ xs) old new [] = ⊥
-InTurn does (x ∷ xs) old new (y ∷ ys) =
-    (mid : Streams) × does x old mid y × InTurn does xs mid new ys
+AreDoneInTurn does [] old new [] = new ≡ old
+AreDoneInTurn does [] old new (y ∷ ys) = ⊥
+AreDoneInTurn does (x ∷ xs) old new [] = ⊥
+AreDoneInTurn does (x ∷ xs) old new (y ∷ ys) =
+    (mid : Streams) × does x old mid y × AreDoneInTurn does xs mid new ys
 
 -- What is done for the next of these, if there is one, is begun. Otherwise nothing is printed.
 abbrev pub BeginsNext : {X : Type 0} → (X → Streams → Streams → Type 0) → List X → Streams
@@ -156,31 +158,34 @@ BeginsNext begins (x ∷ rest) old new = begins x old new
 
 -- An error ended what is done for these, one after the other: it is done for the first of them, and
 -- begun for the next.
-pub record IsStopped {X Y : Type 0} (does : X → Streams → Streams → Y → Type 0)
+pub record IsStoppedInTurn {X Y : Type 0} (does : X → Streams → Streams → Y → Type 0)
     (begins : X → Streams → Streams → Type 0) (all : List X) (old new : Streams) : Type 0 where
   pub done : List X
   pub rest : List X
   pub are_all : all ≡ done ++ rest
   pub results : List Y
   pub mid : Streams
-  pub are_done : InTurn does done old mid results
+  pub are_done : AreDoneInTurn does done old mid results
   pub next : BeginsNext begins rest mid new
 
 -- What is done for a name, with this result.
-abbrev pub Ends : (List ℕ → Streams → Streams → Option Bool → Type 0) → List ℕ → Streams → Streams
+abbrev pub EndsWithResult : (List ℕ → Streams → Streams → Option Bool → Type 0) → List ℕ → Streams
+    → Streams
     → Bool → Type 0
-Ends does name old new well = does name old new (Some well)
+EndsWithResult does name old new well = does name old new (Some well)
 
 -- What is done for a name if an error ends it, so that there is no result.
-abbrev pub Stops : (List ℕ → Streams → Streams → Option Bool → Type 0) → List ℕ → Streams
+abbrev pub StopsWithoutResult : (List ℕ → Streams → Streams → Option Bool → Type 0) → List ℕ
+    → Streams
     → Streams → Type 0
-Stops does name old new = does name old new None
+StopsWithoutResult does name old new = does name old new None
 
 -- Something is done for each of these names, one after the other. The result is whether each went
 -- well. There is none if an error ended it.
-abbrev pub AllInTurn : (List ℕ → Streams → Streams → Option Bool → Type 0) → List (List ℕ)
+abbrev pub NamesAreDoneInTurn : (List ℕ → Streams → Streams → Option Bool → Type 0) → List (List ℕ)
     → Streams → Streams → Option Bool → Type 0
-AllInTurn does names old new (Some all) =
-    (each : List Bool) × InTurn (Ends does) names old new each
+NamesAreDoneInTurn does names old new (Some all) =
+    (each : List Bool) × AreDoneInTurn (EndsWithResult does) names old new each
     × (all ≡ list_all (λ well. well) each)
-AllInTurn does names old new None = IsStopped (Ends does) (Stops does) names old new
+NamesAreDoneInTurn does names old new None = IsStoppedInTurn (EndsWithResult does)
+    (StopsWithoutResult does) names old new

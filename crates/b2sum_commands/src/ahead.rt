@@ -3,10 +3,16 @@
 ghost use Rattle.std.specs.Prelude.{◌≡◌, ◌+◌, ◌-◌, ◌<◌, ◌≤◌, ℕ, List, [], length, take, drop, map};
 ghost use Rattle.std.specs.Prelude.{IfOk, IfSome, None, true, false, ◌≢◌, slice_index_or};
 ghost use Rattle.std.specs.List.{All, Any};
-ghost use Rattle.blake2_streams.specs.Streams.{GivesAll};
+ghost use Rattle.blake2_streams.specs.Streams.{ReturnsAllBytes};
 ghost use Rattle.b2sum_commands.specs.declared.ahead.Part.{Part};
-ghost use Rattle.b2sum_commands.specs.ReadAhead.{AreFound, HasLanes, HasText, IsDigestOf, IsFor};
-ghost use Rattle.b2sum_commands.specs.ReadAhead.{IsTextOf, part_of};
+ghost use Rattle.b2sum_commands.specs.ReadAhead.{
+  AreDigestsOfFiles,
+  HashesInLanes,
+  PartHasFileText,
+  IsDigestOfFile,
+  IsDigestFor,
+};
+ghost use Rattle.b2sum_commands.specs.ReadAhead.{FileHasText, bytes_of_part};
 
 use crate::devices::{Disk, OpenFile};
 use crate::hashes::{Function, Hashes};
@@ -112,11 +118,12 @@ pub(crate) fn digest_ahead<H: Hashes, D: Disk>(
     name: &[u8],
     function: Function,
 ) -> Option<[u8; 64]>
-    requires { AreFound (D.files host.now.disk) H.hashing options.now ahead.now.found.items }
+    requires { AreDigestsOfFiles (D.files host.now.disk) H.hashing options.now
+        ahead.now.found.items }
     ensures right { IfSome result
-        (IsDigestOf (D.files host.now.disk) H.hashing options.now function name.now) }
-    ensures none { result ≡ None → HasLanes function.algorithm → ahead.now.turn ≤ ahead.now.end
-        → All (λ x. ¬ IsFor function name.now x) ahead.now.found.items }
+        (IsDigestOfFile (D.files host.now.disk) H.hashing options.now function name.now) }
+    ensures none { result ≡ None → HashesInLanes function.algorithm → ahead.now.turn ≤ ahead.now.end
+        → All (λ x. ¬ IsDigestFor function name.now x) ahead.now.found.items }
 {
     if ahead.turn > ahead.end {
         return None;
@@ -131,9 +138,9 @@ pub(crate) fn digest_ahead<H: Hashes, D: Disk>(
 
 // Returns whether a digest is that of the file of this name, by this function.
 fn is_of(found: &Found, function: Function, name: &[u8]) -> bool
-    ensures right { result ≡ true → IsFor function name.now found.now }
-    ensures wrong { result ≡ false → HasLanes function.algorithm
-        → ¬ IsFor function name.now found.now }
+    ensures right { result ≡ true → IsDigestFor function name.now found.now }
+    ensures wrong { result ≡ false → HashesInLanes function.algorithm
+        → ¬ IsDigestFor function name.now found.now }
 {
     if !are_same(found.function, function) {
         return false;
@@ -144,7 +151,7 @@ fn is_of(found: &Found, function: Function, name: &[u8]) -> bool
 /// Returns whether both are the same function, by which several texts are hashed in lanes.
 pub(crate) fn are_same(a: Function, b: Function) -> bool
     ensures same { result ≡ true → a ≡ b }
-    ensures other { result ≡ false → HasLanes b.algorithm → a ≢ b }
+    ensures other { result ≡ false → HashesInLanes b.algorithm → a ≢ b }
 {
     a.bytes == b.bytes
         && matches!(
@@ -162,11 +169,13 @@ pub(crate) fn go_on<H: Hashes, D: Disk>(
     names: &[Vec<u8>],
     ahead: &mut Ahead,
 )
-    requires { AreFound (D.files host.now.disk) H.hashing options.now ahead.old.found.items }
-    ensures { AreFound (D.files host.now.disk) H.hashing options.now ahead.new.found.items }
+    requires { AreDigestsOfFiles (D.files host.now.disk) H.hashing options.now
+        ahead.old.found.items }
+    ensures { AreDigestsOfFiles (D.files host.now.disk) H.hashing options.now
+        ahead.new.found.items }
 {
     let turn = ahead.turn;
-    if !is_due(options, ahead) {
+    if !begins_group(options, ahead) {
         return;
     }
     let function = Function {
@@ -181,7 +190,7 @@ pub(crate) fn go_on<H: Hashes, D: Disk>(
 
 /// Goes on to the next file. Returns whether a group begins with it: none does under a key, whose
 /// states are wiped one by one, and none while progress is shown.
-pub(crate) fn is_due(options: &Options, ahead: &mut Ahead) -> bool
+pub(crate) fn begins_group(options: &Options, ahead: &mut Ahead) -> bool
     ensures { ahead.new.found.items ≡ ahead.old.found.items }
 {
     let turn = ahead.turn;
@@ -199,8 +208,10 @@ pub(crate) fn read_group<H: Hashes, D: Disk>(
     names: &[Vec<u8>],
     ahead: &mut Ahead,
 ) -> Result<(), AllocError>
-    requires { AreFound (D.files host.now.disk) H.hashing options.now ahead.old.found.items }
-    ensures { AreFound (D.files host.now.disk) H.hashing options.now ahead.new.found.items }
+    requires { AreDigestsOfFiles (D.files host.now.disk) H.hashing options.now
+        ahead.old.found.items }
+    ensures { AreDigestsOfFiles (D.files host.now.disk) H.hashing options.now
+        ahead.new.found.items }
 {
     let most = ahead.width;
     ahead.width = (2 * most.min(MOST_FILES)).min(MOST_FILES);
@@ -285,11 +296,12 @@ fn hash_files<H: Hashes, D: Disk>(
     room: &mut [u8],
     found: &mut Vec<Found>,
 ) -> Result<Group, AllocError>
-    requires { AreFound (D.files host.now.disk) H.hashing options.now found.old.items }
-    ensures found { AreFound (D.files host.now.disk) H.hashing options.now found.new.items }
+    requires { AreDigestsOfFiles (D.files host.now.disk) H.hashing options.now found.old.items }
+    ensures found { AreDigestsOfFiles (D.files host.now.disk) H.hashing options.now
+        found.new.items }
     ensures all { IfOk result (λ group. H.hashes_several options.now function
-        (map (part_of room.new) group.parts.items)
-        → All (λ p. Any (IsFor function p.name.items) found.new.items) group.parts.items) }
+        (map (bytes_of_part room.new) group.parts.items)
+        → All (λ p. Any (IsDigestFor function p.name.items) found.new.items) group.parts.items) }
 {
     let mut group = read_parts(host, names, most, room)?;
     // The longest come first. The order is no part of the digests.
@@ -309,7 +321,7 @@ fn read_parts<H, D: Disk>(
     most: usize,
     room: &mut [u8],
 ) -> Result<Group, AllocError>
-    ensures { IfOk result (λ group. All (HasText (D.files host.now.disk) room.new
+    ensures { IfOk result (λ group. All (PartHasFileText (D.files host.now.disk) room.new
         (length room.new)) group.parts.items) }
 {
     let mut parts = Vec::new(host.program.alloc);
@@ -359,7 +371,7 @@ fn read_part<H, D: Disk>(
     ensures room { length room.new ≡ length room.old }
     ensures before { take at room.new ≡ take at room.old }
     ensures text { IfSome result (λ end. (at ≤ end) × (end ≤ length room.new)
-        × IsTextOf (D.files host.now.disk) name.now (take (end - at) (drop at room.new))) }
+        × FileHasText (D.files host.now.disk) name.now (take (end - at) (drop at room.new))) }
 {
     if is_standard_input(name) {
         return None;
@@ -379,7 +391,7 @@ fn read_to_end<S: OpenFile>(source: &mut S, out: &mut [u8]) -> Option<usize>
     ensures room { length out.new ≡ length out.old }
     ensures most { IfSome result (λ count. count ≤ length out.new) }
     ensures whole { IfSome result (λ count. count < length out.new
-        → GivesAll (S.left source.old) (S.left source.new) (take count out.new)) }
+        → ReturnsAllBytes (S.left source.old) (S.left source.new) (take count out.new)) }
 {
     let mut count = 0;
     'reading: while count < out.len() {
@@ -404,12 +416,15 @@ fn hash_parts<H: Hashes, D: Disk>(
     room: &[u8],
     found: &mut Vec<Found>,
 ) -> Result<(), AllocError>
-    requires parts { All (HasText (D.files host.now.disk) room.now (length room.now)) parts.now }
-    requires found { AreFound (D.files host.now.disk) H.hashing options.now found.old.items }
-    ensures found { AreFound (D.files host.now.disk) H.hashing options.now found.new.items }
+    requires parts { All (PartHasFileText (D.files host.now.disk) room.now (length room.now))
+        parts.now }
+    requires found { AreDigestsOfFiles (D.files host.now.disk) H.hashing options.now
+        found.old.items }
+    ensures found { AreDigestsOfFiles (D.files host.now.disk) H.hashing options.now
+        found.new.items }
     ensures all { IfOk result (λ _. H.hashes_several options.now function
-        (map (part_of room.now) parts.now)
-        → All (λ p. Any (IsFor function p.name.items) found.new.items) parts.now) }
+        (map (bytes_of_part room.now) parts.now)
+        → All (λ p. Any (IsDigestFor function p.name.items) found.new.items) parts.now) }
 {
     let alloc = host.program.alloc;
     let texts = texts_of(alloc, parts, room)?;
@@ -437,11 +452,14 @@ fn add_digests<H: Hashes, D: Disk>(
 ) -> Result<(), AllocError>
     requires number { length digests.now ≡ length parts.now }
     requires digests { (j : ℕ) (p : Part) → j < length parts.now
-        → IsDigestOf (D.files host.now.disk) H.hashing options.now function
+        → IsDigestOfFile (D.files host.now.disk) H.hashing options.now function
         (slice_index_or parts.now j p).name.items (slice_index_or digests.now j []) }
-    requires found { AreFound (D.files host.now.disk) H.hashing options.now found.old.items }
-    ensures found { AreFound (D.files host.now.disk) H.hashing options.now found.new.items }
-    ensures all { IfOk result (λ _. All (λ p. Any (IsFor function p.name.items) found.new.items)
+    requires found { AreDigestsOfFiles (D.files host.now.disk) H.hashing options.now
+        found.old.items }
+    ensures found { AreDigestsOfFiles (D.files host.now.disk) H.hashing options.now
+        found.new.items }
+    ensures all { IfOk result
+        (λ _. All (λ p. Any (IsDigestFor function p.name.items) found.new.items)
         parts.now) }
 {
     for j in 0..parts.len() {
@@ -459,7 +477,7 @@ fn add_digests<H: Hashes, D: Disk>(
 fn texts_of<'a>(alloc: Global, parts: &[Part], room: &'a [u8]) -> Result<Vec<&'a [u8]>, AllocError>
     requires { All (λ p. (p.start ≤ p.end) × (p.end ≤ length room.now)) parts.now }
     ensures { IfOk result
-        (λ texts. map (λ t. t.now) texts.items ≡ map (part_of room.now) parts.now) }
+        (λ texts. map (λ t. t.now) texts.items ≡ map (bytes_of_part room.now) parts.now) }
 {
     let mut texts = Vec::new(alloc);
     for part in parts {
@@ -471,7 +489,7 @@ fn texts_of<'a>(alloc: Global, parts: &[Part], room: &'a [u8]) -> Result<Vec<&'a
 // Returns the bytes of a part.
 fn text_of<'a>(part: &Part, room: &'a [u8]) -> &'a [u8]
     requires { (part.now.start ≤ part.now.end) × (part.now.end ≤ length room.now) }
-    ensures { result.now ≡ part_of room.now part.now }
+    ensures { result.now ≡ bytes_of_part room.now part.now }
 {
     &room[part.start..part.end]
 }

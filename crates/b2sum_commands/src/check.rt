@@ -11,22 +11,69 @@ ghost use Rattle.std.specs.Option.{option_map};
 ghost use Rattle.std.specs.Result.{result_ok};
 ghost use Rattle.b2sum_lines.specs.EntryViews.{entry_value};
 ghost use Rattle.b2sum_commands.specs.Messages.{LineNeeds, VerifiesNone, message, message_if};
-ghost use Rattle.b2sum_commands.specs.World.{world_of, AllInTurn, KeepsOutput, OnlyTells, StopsIn};
-ghost use Rattle.b2sum_commands.specs.World.{HasFailed, IsWritten, TellsText};
-ghost use Rattle.b2sum_commands.specs.LineReads.{IsCutOff, IsAfter, source_left, source_name};
+ghost use Rattle.b2sum_commands.specs.World.{
+  world_of,
+  NamesAreDoneInTurn,
+  KeepsOutputAndPlace,
+  OnlyTells,
+  AcceptsNothingOrPart,
+};
+ghost use Rattle.b2sum_commands.specs.World.{OpenFileHasFailed, SinkAcceptsOrFails, TellsText};
+ghost use Rattle.b2sum_commands.specs.LineReads.{
+  LineIsCutOff,
+  SourceIsAfterLine,
+  source_left,
+  source_name_or_dash,
+};
 ghost use Rattle.b2sum_commands.specs.LineReads.{IsOpenManifest};
-ghost use Rattle.b2sum_commands.specs.Manifests.{trimmed, item, spacing_after, IsVerdict};
-ghost use Rattle.b2sum_commands.specs.Manifests.{IsLine, IsMet, TellsUnread, next_place};
-ghost use Rattle.b2sum_commands.specs.Manifests.{BeginsLine, BeginsVerdict};
-ghost use Rattle.b2sum_commands.specs.Reports.{AreCounted, Adds, has_no_entry, warnings};
-ghost use Rattle.b2sum_commands.specs.Reports.{holds_counted, report_text, TellsEnd};
-ghost use Rattle.b2sum_commands.specs.Manifests.{outcome, with_name, verdict_lines, prints_nothing};
-ghost use Rattle.b2sum_commands.specs.Manifests.{are_shown, digest_lines, full_outcome, HasVerdict};
-ghost use Rattle.b2sum_commands.specs.Manifests.{improper, is_warnings};
-ghost use Rattle.b2sum_commands.specs.ManifestChecks.{item_value, IfListed, IsChecked, GoesOn};
-ghost use Rattle.b2sum_commands.specs.ManifestChecks.{AreRead, EndsAt, AreStopped, TellsUnopened};
-ghost use Rattle.b2sum_commands.specs.ReadAhead.{AreFound};
-ghost use Rattle.b2sum_commands.specs.SealedLists.{IsCheckedBy};
+ghost use Rattle.b2sum_commands.specs.Manifests.{
+  line_content_unless_comment,
+  item,
+  spacing_after_entry,
+  VerdictIsRight,
+};
+ghost use Rattle.b2sum_commands.specs.Manifests.{
+  LineIsChecked,
+  NeedsNoOtherOptions,
+  TellsWhyUnread,
+  next_place,
+};
+ghost use Rattle.b2sum_commands.specs.Manifests.{StopsInLine, StopsInVerdict};
+ghost use Rattle.b2sum_commands.specs.Reports.{
+  CountsMatchVerdicts,
+  CountsAddVerdict,
+  has_no_entry,
+  count_warnings,
+};
+ghost use Rattle.b2sum_commands.specs.Reports.{manifest_holds_by_counts, report_text};
+ghost use Rattle.b2sum_commands.specs.Reports.{TellsManifestEnd};
+ghost use Rattle.b2sum_commands.specs.Manifests.{
+  outcome,
+  name_with_outcome,
+  verdict_lines,
+  prints_nothing,
+};
+ghost use Rattle.b2sum_commands.specs.Manifests.{
+  digests_are_shown,
+  digest_lines,
+  full_outcome,
+  VerdictLinesAreAccepted,
+};
+ghost use Rattle.b2sum_commands.specs.Manifests.{bad_line_message, warns_of_bad_lines};
+ghost use Rattle.b2sum_commands.specs.ManifestChecks.{
+  item_value,
+  IfItemIsEntry,
+  ManifestIsChecked,
+  ManifestIsCheckedFromHere,
+};
+ghost use Rattle.b2sum_commands.specs.ManifestChecks.{
+  LinesAreReadAndChecked,
+  CountsAtEnd,
+  ManifestCheckIsStopped,
+  TellsOpenFailure,
+};
+ghost use Rattle.b2sum_commands.specs.ReadAhead.{AreDigestsOfFiles};
+ghost use Rattle.b2sum_commands.specs.SealedLists.{FileIsCheckedByOptions};
 ghost use Rattle.b2sum_commands.specs.declared.line_reader.LineEnd.TheVariants.{Failure};
 ghost use Rattle.b2sum_commands.specs.declared.check.Verdict.TheVariants.{Equal, Different};
 ghost use Rattle.b2sum_commands.specs.declared.check.Verdict.TheVariants.{Skipped, Malformed};
@@ -46,7 +93,7 @@ use crate::messages::{
     warn_of_no_entry, warn_of_none, warn_of_read,
 };
 use crate::options::{Options, Report};
-use crate::other_hashes::is_foreign;
+use crate::other_hashes::is_line_of_other_hash;
 use crate::sealed_checks::check_sealed;
 use crate::session::{Host, Program, Session};
 use crate::sums::{Read, digest_file, is_standard_input};
@@ -95,7 +142,7 @@ pub struct Counts {
 
 impl Counts {
     pub(crate) fn none() -> Counts
-        ensures { AreCounted [] result }
+        ensures { CountsMatchVerdicts [] result }
     {
         Counts {
             equal: 0,
@@ -110,7 +157,7 @@ impl Counts {
 
     // Adds a line with this verdict.
     pub(crate) fn add(&mut self, verdict: Verdict)
-        ensures { Adds verdict self.old self.new }
+        ensures { CountsAddVerdict verdict self.old self.new }
     {
         match verdict {
             Verdict::Equal => self.equal = self.equal.saturating_add(1),
@@ -139,7 +186,7 @@ impl Counts {
 
     // Returns whether a file has its digest, and no line fails the check.
     fn holds(&self, is_strict: bool) -> bool
-        ensures { result ≡ holds_counted is_strict self.now }
+        ensures { result ≡ manifest_holds_by_counts is_strict self.now }
     {
         self.equal > 0
             && self.different == 0
@@ -158,7 +205,7 @@ pub fn check_manifests<H: Hashes, D: Disk, K: Output, E: Sink>(
     session: &mut Session<D::File, K, E>,
     names: &[Vec<u8>],
 ) -> Result<bool, Fault>
-    ensures checked { AllInTurn (IsCheckedBy
+    ensures checked { NamesAreDoneInTurn (FileIsCheckedByOptions
         (world_of host.now.program.name.items D.File.named D.File.failed D.File.failure
         (D.files host.now.disk) H.hashing) options.now)
         (map (λ name. name.items) names.now) session.old session.new (result_ok result) }
@@ -179,7 +226,7 @@ fn check_list<H: Hashes, D: Disk, K: Output, E: Sink>(
     session: &mut Session<D::File, K, E>,
     name: &[u8],
 ) -> Result<bool, Fault>
-    ensures checked { IsCheckedBy
+    ensures checked { FileIsCheckedByOptions
         (world_of host.now.program.name.items D.File.named D.File.failed D.File.failure
         (D.files host.now.disk) H.hashing)
         options.now name.now session.old session.new (result_ok result) }
@@ -205,7 +252,7 @@ pub fn check_manifest<H: Hashes, D: Disk, K: Output, E: Sink>(
     session: &mut Session<D::File, K, E>,
     name: &[u8],
 ) -> Result<bool, Fault>
-    ensures checked { IsChecked
+    ensures checked { ManifestIsChecked
         (world_of host.now.program.name.items D.File.named D.File.failed D.File.failure
         (D.files host.now.disk) H.hashing)
         options.now name.now session.old session.new (result_ok result) }
@@ -228,7 +275,7 @@ fn check_open<H: Hashes, D: Disk, K: Output, E: Sink>(
 ) -> Result<bool, Fault>
     requires { IsOpenManifest D.File.named D.File.left ((D.files host.now.disk).holds name.now)
         session.old.left name.now manifest.file manifest.lines }
-    ensures checked { GoesOn
+    ensures checked { ManifestIsCheckedFromHere
         (world_of host.now.program.name.items D.File.named D.File.failed D.File.failure
         (D.files host.now.disk) H.hashing)
         options.now name.now session.old session.new (result_ok result) }
@@ -259,11 +306,12 @@ impl<F: OpenFile> Manifest<F> {
         requires { F.named input.old ≡ 45 ∷ [] }
         ensures passes { IfOk result (λ end. (more : List ℕ) × (rest : Option (List ℕ))
             × Consumes (source_left F.left self.old.file (F.left input.old)) rest more
-            × IsCutOff end self.old.lines more line.new.items self.new.lines
-            × IsAfter end rest (source_left F.left self.new.file (F.left input.new))
-            (HasFailed F.named F.failed (source_name F.named self.old.file))) }
+            × LineIsCutOff end self.old.lines more line.new.items self.new.lines
+            × SourceIsAfterLine end rest (source_left F.left self.new.file (F.left input.new))
+            (OpenFileHasFailed F.named F.failed (source_name_or_dash F.named self.old.file))) }
         ensures same { is_none self.new.file ≡ is_none self.old.file }
-        ensures name { source_name F.named self.new.file ≡ source_name F.named self.old.file }
+        ensures name { source_name_or_dash F.named self.new.file
+            ≡ source_name_or_dash F.named self.old.file }
         ensures input { F.named input.new ≡ 45 ∷ [] }
         ensures other { is_none self.old.file ≡ false → input.new ≡ input.old }
     {
@@ -284,7 +332,7 @@ fn open_manifest<H: Hashes, D: Disk, K: Output, E: Sink>(
         (session.new ≡ session.old) × IsOpenManifest D.File.named D.File.left
         ((D.files host.now.disk).holds name.now) session.new.left name.now m.file m.lines)) }
     ensures cut { IfOk result (λ found. found ≡ None → OnlyTells session.old session.new
-        × TellsUnopened
+        × TellsOpenFailure
         (world_of host.now.program.name.items D.File.named D.File.failed D.File.failure
         (D.files host.now.disk) H.hashing)
         name.now session.old session.new) }
@@ -317,18 +365,19 @@ fn check_lines<H: Hashes, D: Disk, K: Output, E: Sink>(
 ) -> Result<Option<Counts>, Fault>
     requires { manifest.old.lines ≡ [] }
     ensures lines { IfOk result (λ found. (rest : Option (List ℕ)) × (vs : List verdict.Verdict)
-        × AreRead
+        × LinesAreReadAndChecked
         (world_of host.now.program.name.items D.File.named D.File.failed D.File.failure
         (D.files host.now.disk) H.hashing) options.now
         (is_none manifest.old.file)
         (source_left D.File.left manifest.old.file session.old.left) rest
         session.old session.new vs
-        × EndsAt found vs rest (source_left D.File.left manifest.new.file session.new.left)
-        (HasFailed D.File.named D.File.failed (source_name D.File.named manifest.old.file))) }
-    ensures stopped { IsErr result → AreStopped
+        × CountsAtEnd found vs rest (source_left D.File.left manifest.new.file session.new.left)
+        (OpenFileHasFailed D.File.named D.File.failed
+        (source_name_or_dash D.File.named manifest.old.file))) }
+    ensures stopped { IsErr result → ManifestCheckIsStopped
         (world_of host.now.program.name.items D.File.named D.File.failed D.File.failure
         (D.files host.now.disk) H.hashing) options.now
-        (source_name D.File.named manifest.old.file) (is_none manifest.old.file)
+        (source_name_or_dash D.File.named manifest.old.file) (is_none manifest.old.file)
         (source_left D.File.left manifest.old.file session.old.left) session.old session.new }
     ensures file { is_none manifest.new.file ≡ is_none manifest.old.file }
     ensures write { IsErrOf result Fault.WriteFailed → session.new.output_failed ≡ true }
@@ -363,8 +412,10 @@ fn go_on_after<H: Hashes, D: Disk, K: Output, E: Sink>(
     line: &[u8],
     ahead: &mut Ahead,
 )
-    requires { AreFound (D.files host.now.disk) H.hashing options.now ahead.old.found.items }
-    ensures { AreFound (D.files host.now.disk) H.hashing options.now ahead.new.found.items }
+    requires { AreDigestsOfFiles (D.files host.now.disk) H.hashing options.now
+        ahead.old.found.items }
+    ensures { AreDigestsOfFiles (D.files host.now.disk) H.hashing options.now
+        ahead.new.found.items }
 {
     let lines = Unchecked {
         line,
@@ -396,12 +447,13 @@ pub(crate) fn check_line<H: Hashes, D: Disk, K: Output, E: Sink>(
     is_input: bool,
     line: &[u8],
 ) -> Result<Verdict, Fault>
-    requires { AreFound (D.files host.now.disk) H.hashing options.now ahead.now.found.items }
-    ensures checked { IfOk result (IsLine
+    requires { AreDigestsOfFiles (D.files host.now.disk) H.hashing options.now
+        ahead.now.found.items }
+    ensures checked { IfOk result (LineIsChecked
         (world_of host.now.program.name.items D.File.named D.File.failed D.File.failure
         (D.files host.now.disk) H.hashing)
         options.now is_input line.now session.old session.new) }
-    ensures begun { IsErr result → BeginsLine
+    ensures begun { IsErr result → StopsInLine
         (world_of host.now.program.name.items D.File.named D.File.failed D.File.failure
         (D.files host.now.disk) H.hashing)
         options.now is_input line.now session.old session.new }
@@ -431,7 +483,7 @@ fn pass_line<F: OpenFile, K: Output, E: Sink>(session: &mut Session<F, K, E>, it
     } }
 {
     if let Item::Listed(entry) = item {
-        session.place.spacing = spacing_after(session.place.spacing, entry.style);
+        session.place.spacing = spacing_after_entry(session.place.spacing, entry.style);
     }
     session.place.number = session.place.number.saturating_add(1);
 }
@@ -444,8 +496,8 @@ fn warn_if_wanted<F: OpenFile, K: Output, E: Sink>(
     line: &[u8],
 ) -> Result<(), AllocError>
     ensures told { OnOk result (TellsText session.old session.new
-        (message_if (is_warnings options.now.report) program.now.name.items
-        (improper options.now session.old.place.name session.old.place.number line.now))) }
+        (message_if (warns_of_bad_lines options.now.report) program.now.name.items
+        (bad_line_message options.now session.old.place.name session.old.place.number line.now))) }
     ensures only { OnlyTells session.old session.new }
 {
     if options.report != Report::Warnings {
@@ -466,11 +518,11 @@ fn warn_of_improper<E: Sink>(
     number: u64,
     line: &[u8],
 ) -> Result<(), AllocError>
-    ensures { OnOk result (IsWritten (E.failed messages.old) (E.failed messages.new)
+    ensures { OnOk result (SinkAcceptsOrFails (E.failed messages.old) (E.failed messages.new)
         (E.held messages.old) (E.held messages.new) (message program.now.name.items
-        (improper options.now name.now number line.now))) }
+        (bad_line_message options.now name.now number line.now))) }
 {
-    if is_foreign(line) {
+    if is_line_of_other_hash(line) {
         warn_of_foreign(program, messages, name, number)
     } else {
         warn_of_line(program, messages, name, number, options.algorithm)
@@ -485,7 +537,7 @@ fn warn_of_unmet<F: OpenFile, K: Output, E: Sink>(
     lacks: Lacks,
 ) -> Result<(), AllocError>
     ensures told { OnOk result (TellsText session.old session.new
-        (message_if (is_warnings options.now.report) program.now.name.items
+        (message_if (warns_of_bad_lines options.now.report) program.now.name.items
         (LineNeeds session.old.place.name session.old.place.number lacks))) }
     ensures only { OnlyTells session.old session.new }
 {
@@ -522,10 +574,10 @@ pub(crate) fn read_item(
 ) -> Result<Item, Fault>
     ensures is { IfOk result
         (λ i. item_value i ≡ item options.now is_input spacing line.now) }
-    ensures fits { IfOk result (λ i. IfListed i (λ e. length e.digest.items ≤ 64)) }
+    ensures fits { IfOk result (λ i. IfItemIsEntry i (λ e. length e.digest.items ≤ 64)) }
     ensures memory { IsOkUnless result Fault.NoMemory }
 {
-    let Some(line) = trimmed(line) else {
+    let Some(line) = line_content_unless_comment(line) else {
         return Ok(Item::Comment);
     };
     match read_line(alloc, options.algorithm, spacing, line)? {
@@ -544,8 +596,8 @@ pub(crate) fn read_item(
 
 /// Returns the line without a carriage return at its end, or `None` for a comment and for an empty
 /// line.
-pub(crate) fn trimmed(line: &[u8]) -> Option<&[u8]>
-    ensures { option_map (λ l. l.now) result ≡ trimmed line.now }
+pub(crate) fn line_content_unless_comment(line: &[u8]) -> Option<&[u8]>
+    ensures { option_map (λ l. l.now) result ≡ line_content_unless_comment line.now }
 {
     if line.is_empty() || line[0] == b'#' {
         return None;
@@ -560,8 +612,8 @@ pub(crate) fn trimmed(line: &[u8]) -> Option<&[u8]>
 }
 
 /// Returns the spacing of a manifest after an entry of this style.
-pub(crate) fn spacing_after(spacing: Spacing, style: Style) -> Spacing
-    ensures { result ≡ spacing_after spacing style }
+pub(crate) fn spacing_after_entry(spacing: Spacing, style: Style) -> Spacing
+    ensures { result ≡ spacing_after_entry spacing style }
 {
     match style {
         Style::Tagged(_) => spacing,
@@ -579,17 +631,18 @@ pub(crate) fn check_entry<H: Hashes, D: Disk, K: Output, E: Sink>(
     entry: &Entry,
 ) -> Result<Verdict, Fault>
     requires bytes { length entry.now.digest.items ≤ 64 }
-    requires ahead { AreFound (D.files host.now.disk) H.hashing options.now ahead.now.found.items }
-    ensures verdict { IfOk result (HasVerdict Appends
+    requires ahead { AreDigestsOfFiles (D.files host.now.disk) H.hashing options.now
+        ahead.now.found.items }
+    ensures verdict { IfOk result (VerdictLinesAreAccepted Appends
         (world_of host.now.program.name.items D.File.named D.File.failed D.File.failure
         (D.files host.now.disk) H.hashing) options.now
         (Ok (entry_value entry.now)) session.old session.new) }
-    ensures told { IfOk result (λ v. v ≡ Unread → TellsUnread
+    ensures told { IfOk result (λ v. v ≡ Unread → TellsWhyUnread
         (world_of host.now.program.name.items D.File.named D.File.failed D.File.failure
         (D.files host.now.disk) H.hashing) options.now
         (Ok (entry_value entry.now)) session.old session.new) }
     ensures silent { IfOk result (λ v. v ≢ Unread → session.new.told ≡ session.old.told) }
-    ensures begun { IsErr result → BeginsVerdict
+    ensures begun { IsErr result → StopsInVerdict
         (world_of host.now.program.name.items D.File.named D.File.failed D.File.failure
         (D.files host.now.disk) H.hashing) options.now
         (Ok (entry_value entry.now)) session.old session.new }
@@ -616,18 +669,19 @@ fn judge_entry<H: Hashes, D: Disk, K: Output, E: Sink>(
     out: &mut [u8; 64],
 ) -> Result<Verdict, Fault>
     requires bytes { length entry.now.digest.items ≤ 64 }
-    requires ahead { AreFound (D.files host.now.disk) H.hashing options.now ahead.now.found.items }
-    ensures verdict { IfOk result (λ v. IsVerdict
+    requires ahead { AreDigestsOfFiles (D.files host.now.disk) H.hashing options.now
+        ahead.now.found.items }
+    ensures verdict { IfOk result (λ v. VerdictIsRight
         (world_of host.now.program.name.items D.File.named D.File.failed D.File.failure
         (D.files host.now.disk) H.hashing) options.now session.old.left
         (Ok (entry_value entry.now)) v (take (length entry.now.digest.items) out.new)
         session.new.left) }
-    ensures told { IfOk result (λ v. v ≡ Unread → TellsUnread
+    ensures told { IfOk result (λ v. v ≡ Unread → TellsWhyUnread
         (world_of host.now.program.name.items D.File.named D.File.failed D.File.failure
         (D.files host.now.disk) H.hashing) options.now
         (Ok (entry_value entry.now)) session.old session.new) }
     ensures silent { IfOk result (λ v. v ≢ Unread → session.new.told ≡ session.old.told) }
-    ensures output { KeepsOutput session.old session.new }
+    ensures output { KeepsOutputAndPlace session.old session.new }
     ensures memory { IsOkUnless result Fault.NoMemory }
 {
     let size = entry.digest.len();
@@ -650,7 +704,7 @@ fn verdict_of(read: Read, digest: &[u8], listed: &[u8]) -> Verdict
     ensures skipped { result ≡ Skipped → read ≡ Missing }
     ensures unread { result ≡ Unread → read ≡ Failed }
     ensures formed { result ≢ Malformed }
-    ensures met { IsMet result }
+    ensures met { NeedsNoOtherOptions result }
     ensures entry { result ≢ Comment }
 {
     match read {
@@ -672,7 +726,7 @@ fn print_verdict<K: Sink>(
 ) -> Result<(), Fault>
     ensures whole { OnOk result (Appends (K.held output.old) (K.held output.new)
         (verdict_lines options.now (Ok (entry_value entry.now)) verdict found.now)) }
-    ensures part { OnErr result (StopsIn (K.held output.old) (K.held output.new)
+    ensures part { OnErr result (AcceptsNothingOrPart (K.held output.old) (K.held output.new)
         (verdict_lines options.now (Ok (entry_value entry.now)) verdict found.now)) }
     ensures write { IsErrOf result Fault.WriteFailed → K.failed output.new ≡ true }
 {
@@ -695,7 +749,7 @@ fn full_outcome(
 {
     let mut text = Vec::new(alloc);
     text.extend_from_slice(outcome_of(options.report, verdict))?;
-    if are_shown(options, verdict) {
+    if digests_are_shown(options, verdict) {
         push_digest(alloc, &mut text, b"  expected: ", listed)?;
         push_digest(alloc, &mut text, b"  found:    ", found)?;
     }
@@ -703,8 +757,8 @@ fn full_outcome(
 }
 
 // Returns whether the digests of an entry with this verdict are printed.
-fn are_shown(options: &Options, verdict: Verdict) -> bool
-    ensures { result ≡ are_shown options.now verdict }
+fn digests_are_shown(options: &Options, verdict: Verdict) -> bool
+    ensures { result ≡ digests_are_shown options.now verdict }
 {
     options.shows_digests
         && matches!(verdict, Verdict::Different)
@@ -748,9 +802,9 @@ fn print_outcome<K: Sink>(
     outcome: &[u8],
 ) -> Result<(), Fault>
     ensures whole { OnOk result (Appends (K.held output.old) (K.held output.new)
-        (with_name name.now outcome.now)) }
-    ensures part { OnErr result (StopsIn (K.held output.old) (K.held output.new)
-        (with_name name.now outcome.now)) }
+        (name_with_outcome name.now outcome.now)) }
+    ensures part { OnErr result (AcceptsNothingOrPart (K.held output.old) (K.held output.new)
+        (name_with_outcome name.now outcome.now)) }
     ensures write { IsErrOf result Fault.WriteFailed → K.failed output.new ≡ true }
 {
     let mut line = Vec::new(alloc);
@@ -777,8 +831,10 @@ pub(crate) fn end_manifest<E: Sink>(
     name: &[u8],
     found: Option<Counts>,
 ) -> Result<bool, Fault>
-    ensures told { IfOk result (λ holds. TellsEnd program.now.name.items options.now name.now found
-        holds (IsWritten (E.failed messages.old) (E.failed messages.new) (E.held messages.old)
+    ensures told { IfOk result
+        (λ holds. TellsManifestEnd program.now.name.items options.now name.now found
+        holds (SinkAcceptsOrFails (E.failed messages.old) (E.failed messages.new)
+        (E.held messages.old)
         (E.held messages.new))) }
     ensures memory { IsOkUnless result Fault.NoMemory }
 {
@@ -798,7 +854,7 @@ fn report<E: Sink>(
     name: &[u8],
     counts: &Counts,
 ) -> Result<(), Fault>
-    ensures told { OnOk result (IsWritten (E.failed messages.old) (E.failed messages.new)
+    ensures told { OnOk result (SinkAcceptsOrFails (E.failed messages.old) (E.failed messages.new)
         (E.held messages.old) (E.held messages.new)
         (report_text program.now.name.items name.now options.now counts.now)) }
     ensures memory { IsOkUnless result Fault.NoMemory }
@@ -824,7 +880,7 @@ fn warn_if_none<E: Sink>(
     name: &[u8],
     counts: &Counts,
 ) -> Result<(), AllocError>
-    ensures { OnOk result (IsWritten (E.failed messages.old) (E.failed messages.new)
+    ensures { OnOk result (SinkAcceptsOrFails (E.failed messages.old) (E.failed messages.new)
         (E.held messages.old) (E.held messages.new)
         (message_if (options.now.ignores_missing && (counts.now.equal == 0))
         program.now.name.items (VerifiesNone name.now))) }
@@ -849,8 +905,9 @@ fn warn_of_counts<E: Sink>(
     counts: &Counts,
     messages: &mut E,
 ) -> Result<(), AllocError>
-    ensures { OnOk result (IsWritten (E.failed messages.old) (E.failed messages.new)
-        (E.held messages.old) (E.held messages.new) (warnings program.now.name.items counts.now)) }
+    ensures { OnOk result (SinkAcceptsOrFails (E.failed messages.old) (E.failed messages.new)
+        (E.held messages.old) (E.held messages.new)
+        (count_warnings program.now.name.items counts.now)) }
 {
     warn_of_count(
         program,

@@ -9,17 +9,22 @@ ghost use Rattle.b2sum_lines.specs.ManifestLines.{max_bytes, is_tree};
 ghost use Rattle.b2sum_lines.specs.declared.entry.Algorithm.TheVariants.{Tree};
 ghost use Rattle.b2sum_lines.specs.declared.entry.Style.TheVariants.{Tagged, Text, Binary};
 ghost use Rattle.b2sum_commands.specs.declared.options.Report.TheVariants.{Each};
-ghost use Rattle.b2sum_commands.specs.AcceptedOptions.{accepted, has_length, has_labels};
+ghost use Rattle.b2sum_commands.specs.AcceptedOptions.{accepted, has_length, salt_and_persona_fit};
 ghost use Rattle.b2sum_commands.specs.AcceptedOptions.{goes_together, goes_with_seals};
 ghost use Rattle.b2sum_commands.specs.AcceptedOptions.{goes_with_folders, goes_with_digest};
 ghost use Rattle.b2sum_commands.specs.AcceptedOptions.{goes_with_task, has_digest_length};
 ghost use Rattle.b2sum_commands.specs.AcceptedOptions.{goes_with_check, goes_with_sums};
 ghost use Rattle.b2sum_commands.specs.AcceptedOptions.{goes_with_files};
 ghost use Rattle.b2sum_commands.specs.AcceptedOptions.{chosen_needs, chosen_style, chosen_shape};
-ghost use Rattle.b2sum_commands.specs.AcceptedOptions.{has_bytes, has_trees, with_leaf, AreOptions};
-ghost use Rattle.b2sum_commands.specs.AcceptedOptions.{has_one_persona, is_input};
+ghost use Rattle.b2sum_commands.specs.AcceptedOptions.{
+  is_not_empty,
+  supports_trees,
+  with_leaf,
+  OptionsMatchChoice,
+};
+ghost use Rattle.b2sum_commands.specs.AcceptedOptions.{has_at_most_one_persona, is_input};
 ghost use Rattle.b2sum_commands.specs.Messages.{is_standard_input};
-ghost use Rattle.b2sum_commands.specs.CommandLineViews.{choice_of, IsUnfit};
+ghost use Rattle.b2sum_commands.specs.CommandLineViews.{choice_of_reader, StopsSinceTestFails};
 
 use crate::options::{Arguments, Options, Reader, Report, Shape, Stop, joined};
 use crate::sums::is_standard_input;
@@ -30,13 +35,14 @@ use std::alloc::Global;
 pub(crate) fn finish(alloc: Global, reader: Reader, files: Vec<Vec<u8>>) -> Result<Arguments, Stop>
     ensures size { IfOk result (λ a. a.options.bytes ≤ 64) }
     ensures accepted { OnOk result
-        (accepted (choice_of reader) (map (λ file. file.items) files.items) ≡ true) }
-    ensures options { IfOk result (λ a. AreOptions (choice_of reader) a.options) }
+        (accepted (choice_of_reader reader) (map (λ file. file.items) files.items) ≡ true) }
+    ensures options { IfOk result (λ a. OptionsMatchChoice (choice_of_reader reader) a.options) }
     ensures no_key { IfOk result (λ a. a.options.key.items ≡ []) }
     ensures files { IfOk result (λ a. a.files ≡ files) }
     ensures key_file { IfOk result (λ a. a.key_file ≡ reader.key_file) }
     ensures stop { IfErr result
-        (IsUnfit (accepted (choice_of reader) (map (λ file. file.items) files.items))) }
+        (StopsSinceTestFails
+        (accepted (choice_of_reader reader) (map (λ file. file.items) files.items))) }
 {
     check_choice(alloc, &reader, files.as_slice())?;
     let options = Options {
@@ -75,10 +81,11 @@ pub(crate) fn finish(alloc: Global, reader: Reader, files: Vec<Vec<u8>>) -> Resu
 // Refuses options that do not go together, or not with these files.
 fn check_choice(alloc: Global, reader: &Reader, files: &[Vec<u8>]) -> Result<(), Stop>
     ensures accepted { OnOk result
-        (accepted (choice_of reader.now) (map (λ file. file.items) files.now) ≡ true) }
+        (accepted (choice_of_reader reader.now) (map (λ file. file.items) files.now) ≡ true) }
     ensures bits { OnOk result (reader.now.bits ≤ 8 * max_bytes reader.now.algorithm) }
     ensures stop { IfErr result
-        (IsUnfit (accepted (choice_of reader.now) (map (λ file. file.items) files.now))) }
+        (StopsSinceTestFails
+        (accepted (choice_of_reader reader.now) (map (λ file. file.items) files.now))) }
 {
     check_length(alloc, reader)?;
     if let Some(text) = conflict(reader) {
@@ -93,7 +100,7 @@ fn check_choice(alloc: Global, reader: &Reader, files: &[Vec<u8>]) -> Result<(),
 
 // Returns the persona of digits and that of a text, of which one has no bytes.
 fn chosen_persona(digits: Vec<u8>, text: Vec<u8>) -> Vec<u8>
-    ensures { result.items ≡ (if has_bytes text.items then text.items else digits.items) }
+    ensures { result.items ≡ (if is_not_empty text.items then text.items else digits.items) }
 {
     if text.is_empty() { digits } else { text }
 }
@@ -124,7 +131,7 @@ fn output_bytes(reader: &Reader) -> usize
 }
 
 fn shape_of(reader: &Reader) -> Shape
-    ensures { result ≡ chosen_shape (choice_of reader.now) }
+    ensures { result ≡ chosen_shape (choice_of_reader reader.now) }
 {
     if reader.is_raw {
         Shape::Bytes
@@ -137,7 +144,7 @@ fn shape_of(reader: &Reader) -> Shape
 
 // Returns whether the key is read from standard input.
 fn has_input_key(reader: &Reader) -> bool
-    ensures { result ≡ is_input (choice_of reader.now).key_file }
+    ensures { result ≡ is_input (choice_of_reader reader.now).key_file }
 {
     match &reader.key_file {
         Some(name) => is_standard_input(name.as_slice()),
@@ -147,7 +154,7 @@ fn has_input_key(reader: &Reader) -> bool
 
 // Returns what the digests need besides a file.
 fn needs_of(reader: &Reader) -> Needs
-    ensures { result ≡ chosen_needs (choice_of reader.now) }
+    ensures { result ≡ chosen_needs (choice_of_reader reader.now) }
 {
     Needs {
         key: reader.key_file.is_some(),
@@ -157,7 +164,7 @@ fn needs_of(reader: &Reader) -> Needs
 }
 
 fn style_of(reader: &Reader) -> Style
-    ensures is { result ≡ chosen_style (choice_of reader.now) }
+    ensures is { result ≡ chosen_style (choice_of_reader reader.now) }
 {
     if reader.is_tagged || reader.leaf.is_some() {
         Style::Tagged(needs_of(reader))
@@ -170,9 +177,9 @@ fn style_of(reader: &Reader) -> Style
 
 // Refuses a length that the algorithm does not have.
 fn check_length(alloc: Global, reader: &Reader) -> Result<(), Stop>
-    ensures length { OnOk result (has_length (choice_of reader.now) ≡ true) }
+    ensures length { OnOk result (has_length (choice_of_reader reader.now) ≡ true) }
     ensures bits { OnOk result (reader.now.bits ≤ 8 * max_bytes reader.now.algorithm) }
-    ensures stop { IfErr result (IsUnfit (has_length (choice_of reader.now))) }
+    ensures stop { IfErr result (StopsSinceTestFails (has_length (choice_of_reader reader.now))) }
 {
     if reader.bits <= 8 * reader.algorithm.max_bytes() as u64 {
         return Ok(());
@@ -195,8 +202,9 @@ fn check_length(alloc: Global, reader: &Reader) -> Result<(), Stop>
 
 // Refuses a salt and a persona that are longer than the algorithm's.
 fn check_labels(alloc: Global, reader: &Reader) -> Result<(), Stop>
-    ensures labels { OnOk result (has_labels (choice_of reader.now) ≡ true) }
-    ensures stop { IfErr result (IsUnfit (has_labels (choice_of reader.now))) }
+    ensures labels { OnOk result (salt_and_persona_fit (choice_of_reader reader.now) ≡ true) }
+    ensures stop { IfErr result
+        (StopsSinceTestFails (salt_and_persona_fit (choice_of_reader reader.now))) }
 {
     let most = reader.algorithm.max_bytes() / 4;
     let reason: &[u8] = if reader.salt.len() > most {
@@ -210,15 +218,15 @@ fn check_labels(alloc: Global, reader: &Reader) -> Result<(), Stop>
 }
 
 // Returns whether the algorithm has trees.
-fn has_trees(algorithm: Algorithm) -> bool
-    ensures { result ≡ has_trees algorithm }
+fn supports_trees(algorithm: Algorithm) -> bool
+    ensures { result ≡ supports_trees algorithm }
 {
     matches!(algorithm, Algorithm::Blake2b | Algorithm::Tree(_))
 }
 
 // Returns the message of options that do not go together.
 fn conflict(reader: &Reader) -> Option<&'static [u8]>
-    ensures is { is_none result ≡ goes_together (choice_of reader.now) }
+    ensures is { is_none result ≡ goes_together (choice_of_reader reader.now) }
 {
     if let Some(text) = conflict_of_seals(reader) {
         return Some(text);
@@ -238,7 +246,7 @@ fn conflict(reader: &Reader) -> Option<&'static [u8]>
 // Returns the message of options for the form of lines, for parameters, trees, checks and sums that
 // do not go together.
 fn conflict_of_task(reader: &Reader) -> Option<&'static [u8]>
-    ensures is { is_none result ≡ goes_with_task (choice_of reader.now) }
+    ensures is { is_none result ≡ goes_with_task (choice_of_reader reader.now) }
 {
     if reader.is_tagged && reader.is_binary == Some(false) {
         return Some(b"--tag does not support --text mode");
@@ -253,7 +261,7 @@ fn conflict_of_task(reader: &Reader) -> Option<&'static [u8]>
         return Some(b"the --key-file and --key-hex-file options are mutually exclusive");
     }
     if reader.leaf.is_some() {
-        if !has_trees(reader.algorithm) {
+        if !supports_trees(reader.algorithm) {
             return Some(b"the --tree option supports blake2b only");
         }
         if reader.key_file.is_some() {
@@ -274,7 +282,7 @@ fn conflict_of_task(reader: &Reader) -> Option<&'static [u8]>
 
 // Returns the message of options that do not go with a sealed list.
 fn conflict_of_seals(reader: &Reader) -> Option<&'static [u8]>
-    ensures { is_none result ≡ goes_with_seals (choice_of reader.now) }
+    ensures { is_none result ≡ goes_with_seals (choice_of_reader reader.now) }
 {
     if reader.seals {
         if reader.checks {
@@ -307,7 +315,7 @@ fn conflict_of_seals(reader: &Reader) -> Option<&'static [u8]>
 
 // Returns the message of options that do not go with folders.
 fn conflict_of_folders(reader: &Reader) -> Option<&'static [u8]>
-    ensures { is_none result ≡ goes_with_folders (choice_of reader.now) }
+    ensures { is_none result ≡ goes_with_folders (choice_of_reader reader.now) }
 {
     if reader.folders.is_empty() {
         return None;
@@ -327,7 +335,7 @@ fn conflict_of_folders(reader: &Reader) -> Option<&'static [u8]>
 // Returns the message of options that do not go with an expected digest.
 fn conflict_of_digest(reader: &Reader) -> Option<&'static [u8]>
     ensures { is_none result
-        ≡ goes_with_digest (choice_of reader.now) (choice_of reader.now).expected }
+        ≡ goes_with_digest (choice_of_reader reader.now) (choice_of_reader reader.now).expected }
 {
     let Some(digest) = &reader.expected else {
         return None;
@@ -347,7 +355,7 @@ fn conflict_of_digest(reader: &Reader) -> Option<&'static [u8]>
 // Returns whether an expected digest of so many bytes has a length that a check accepts.
 fn has_digest_length(reader: &Reader, bytes: usize) -> bool
     ensures { (digest : List ℕ) → length digest ≡ bytes
-        → result ≡ has_digest_length (choice_of reader.now) digest }
+        → result ≡ has_digest_length (choice_of_reader reader.now) digest }
 {
     let most = reader.algorithm.max_bytes();
     if bytes > most {
@@ -362,7 +370,7 @@ fn has_digest_length(reader: &Reader, bytes: usize) -> bool
 
 // Returns whether there is a persona of digits and one of a text.
 fn has_two_personas(reader: &Reader) -> bool
-    ensures { result ≡ not (has_one_persona (choice_of reader.now)) }
+    ensures { result ≡ not (has_at_most_one_persona (choice_of_reader reader.now)) }
 {
     !reader.persona.is_empty() && !reader.persona_text.is_empty()
 }
@@ -372,7 +380,7 @@ const SHOWN_MAC: &[u8] =
     b"--show-digests does not support --key-file: it would print a valid MAC of a changed file";
 
 fn conflict_of_check(reader: &Reader) -> Option<&'static [u8]>
-    ensures is { is_none result ≡ goes_with_check (choice_of reader.now) }
+    ensures is { is_none result ≡ goes_with_check (choice_of_reader reader.now) }
 {
     if reader.ends_zero {
         return Some(b"the --zero option is not supported when verifying checksums");
@@ -394,7 +402,7 @@ fn conflict_of_check(reader: &Reader) -> Option<&'static [u8]>
 
 // Returns the message of options that do not go with these files.
 fn conflict_of_files(reader: &Reader, files: &[Vec<u8>]) -> Option<&'static [u8]>
-    ensures { is_none result ≡ goes_with_files (choice_of reader.now)
+    ensures { is_none result ≡ goes_with_files (choice_of_reader reader.now)
         (map (λ file. file.items) files.now) }
 {
     if reader.is_raw && files.len() != 1 {
@@ -419,7 +427,7 @@ fn has_dash(files: &[Vec<u8>]) -> bool
 }
 
 fn conflict_of_sums(reader: &Reader) -> Option<&'static [u8]>
-    ensures is { is_none result ≡ goes_with_sums (choice_of reader.now) }
+    ensures is { is_none result ≡ goes_with_sums (choice_of_reader reader.now) }
 {
     if reader.ignores_missing {
         return Some(b"the --ignore-missing option is meaningful only when verifying checksums");

@@ -4,9 +4,9 @@ ghost use Rattle.std.specs.Prelude.{◌≡◌, ◌||◌, ℕ, ℤ, List, Option,
 ghost use Rattle.std.specs.Prelude.{true, false, IsErr, OnOk, OnErr, is_err, string_bytes};
 ghost use Rattle.std.specs.Io.{ReadsAtMost};
 ghost use Rattle.std.specs.declared.io.Error.{Error};
-ghost use Rattle.blake2_streams.specs.Devices.{Gives};
+ghost use Rattle.blake2_streams.specs.Devices.{ReadReturns};
 ghost use Rattle.std.specs.Io.KnownBytes.{Appends};
-ghost use Rattle.b2sum_commands.specs.World.{IsWritten, StopsIn};
+ghost use Rattle.b2sum_commands.specs.World.{SinkAcceptsOrFails, AcceptsNothingOrPart};
 ghost use Rattle.b2sum_commands.specs.declared.devices.Fault.TheVariants.{NoMemory, WriteFailed};
 
 use blake2_streams::{DeviceError, Sink, write_whole};
@@ -35,7 +35,7 @@ pub trait OpenFile {
     /// `DeviceError`, if the read fails. After an error nothing is promised about the bytes.
     fn read(&mut self, buf: &mut [u8]) -> Result<usize, DeviceError>
         ensures bound { ReadsAtMost result buf.new }
-        ensures bytes { Gives (left self.old) (left self.new) result buf.new }
+        ensures bytes { ReadReturns (left self.old) (left self.new) result buf.new }
         ensures fails { failed self.new ≡ (failed self.old || is_err result) }
         ensures name { named self.new ≡ named self.old };
 
@@ -144,7 +144,8 @@ pub(crate) fn put<K: Sink>(sink: &mut K, text: &[u8]) -> Result<(), DeviceError>
     ensures stays { K.failed sink.old ≡ true → K.failed sink.new ≡ true }
     ensures fails { IsErr result → K.failed sink.new ≡ true }
     ensures whole { OnOk result (Appends (K.held sink.old) (K.held sink.new) text.now) }
-    ensures part { OnErr result (StopsIn (K.held sink.old) (K.held sink.new) text.now) }
+    ensures part { OnErr result
+        (AcceptsNothingOrPart (K.held sink.old) (K.held sink.new) text.now) }
 {
     if sink.failed() {
         return Err(DeviceError);
@@ -154,7 +155,8 @@ pub(crate) fn put<K: Sink>(sink: &mut K, text: &[u8]) -> Result<(), DeviceError>
 
 /// Writes a message, and leaves a failure to the sink.
 pub(crate) fn print_message<E: Sink>(sink: &mut E, text: &[u8])
-    ensures { IsWritten (E.failed sink.old) (E.failed sink.new) (E.held sink.old) (E.held sink.new)
+    ensures { SinkAcceptsOrFails (E.failed sink.old) (E.failed sink.new) (E.held sink.old)
+        (E.held sink.new)
         text.now }
 {
     let _ = put(sink, text);

@@ -2,7 +2,7 @@
 
 ghost use Rattle.std.specs.Prelude.{◌≡◌, IfOk, IsErrOf, true};
 ghost use Rattle.std.specs.Result.{result_ok};
-ghost use Rattle.b2sum_commands.specs.Expected.{IsExpected, expected_entry};
+ghost use Rattle.b2sum_commands.specs.Expected.{IsComparedWithDigest, expected_entry};
 ghost use Rattle.b2sum_commands.specs.Manifests.{is_equal};
 ghost use Rattle.b2sum_commands.specs.World.{world_of};
 ghost use Rattle.b2sum_lines.specs.EntryViews.{entry_value};
@@ -27,7 +27,7 @@ pub(crate) fn check_expected<H: Hashes, D: Disk, K: Output, E: Sink>(
     digest: &ExpectedDigest,
     name: &[u8],
 ) -> Result<bool, Fault>
-    ensures checked { IsExpected
+    ensures checked { IsComparedWithDigest
         (world_of host.now.program.name.items D.File.named D.File.failed D.File.failure
         (D.files host.now.disk) H.hashing) options.now digest.now.bytes.items name.now session.old
         session.new (result_ok result) }

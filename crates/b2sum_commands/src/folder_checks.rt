@@ -7,13 +7,20 @@ ghost use Rattle.std.specs.Option.{option_map};
 ghost use Rattle.std.specs.List.Sorted.{IsPermutation, IsSorted};
 ghost use Rattle.std.specs.Ordering.{nat_cmp};
 ghost use Rattle.text_lines.specs.Cuts.{lines_of};
-ghost use Rattle.b2sum_commands.specs.FolderChecks.{AreCompared, IsLookedFor, has_name, if_named};
-ghost use Rattle.b2sum_commands.specs.FolderChecks.{line_name};
-ghost use Rattle.b2sum_commands.specs.FolderChecks.{names_of};
-ghost use Rattle.b2sum_commands.specs.Manifests.{item, spacing_past};
-ghost use Rattle.b2sum_commands.specs.World.{InTurn, world_of};
+ghost use Rattle.b2sum_commands.specs.FolderChecks.{
+  FoldersAreComparedIfAny,
+  NameIsLookedUp,
+  has_name,
+  name_as_list,
+};
+ghost use Rattle.b2sum_commands.specs.FolderChecks.{entry_name_of_line};
+ghost use Rattle.b2sum_commands.specs.FolderChecks.{entry_names_of_lines};
+ghost use Rattle.b2sum_commands.specs.Manifests.{item, spacing_after_line};
+ghost use Rattle.b2sum_commands.specs.World.{AreDoneInTurn, world_of};
 
-use crate::check::{Item, prints_nothing, read_item, spacing_after, trimmed};
+use crate::check::{
+    Item, line_content_unless_comment, prints_nothing, read_item, spacing_after_entry,
+};
 use crate::devices::{Disk, Fault, Output};
 use crate::folders::walk;
 use crate::hashes::Hashes;
@@ -36,11 +43,12 @@ pub(crate) fn has_all<H: Hashes, D: Disk, K: Output, E: Sink>(
     is_input: bool,
     text: &[u8],
 ) -> Result<bool, Fault>
-    ensures compared { IfOk result (AreCompared
+    ensures compared { IfOk result (FoldersAreComparedIfAny
         (world_of host.now.program.name.items D.File.named D.File.failed D.File.failure
         (D.files host.now.disk) H.hashing) options.now
         (map (λ name. name.items) options.now.folders.items)
-        (names_of options.now is_input spacing (lines_of text.now)) session.old session.new) }
+        (entry_names_of_lines options.now is_input spacing (lines_of text.now)) session.old
+        session.new) }
     ensures held { session.new.held ≡ session.old.held }
     ensures memory { IsOkUnless result Fault.NoMemory }
 {
@@ -66,7 +74,7 @@ fn sorted_names(
     text: &[u8],
 ) -> Result<Vec<Vec<u8>>, Fault>
     ensures names { IfOk result (λ names. IsPermutation
-        (names_of options.now is_input spacing (lines_of text.now))
+        (entry_names_of_lines options.now is_input spacing (lines_of text.now))
         (map (λ name. name.items) names.items)) }
     ensures sorted { IfOk result (λ names.
         IsSorted (λ a b. slice_cmp nat_cmp a.items b.items) names.items) }
@@ -96,32 +104,32 @@ fn push_name_of(
 ) -> Result<Spacing, Fault>
     ensures name { OnOk result (map (λ name. name.items) names.new.items
         ≡ map (λ name. name.items) names.old.items
-        ++ if_named (line_name options.now spacing line.now)) }
+        ++ name_as_list (entry_name_of_line options.now spacing line.now)) }
     ensures spacing { IfOk result
-        (λ after. after ≡ spacing_past spacing (item options.now is_input spacing line.now)) }
+        (λ after. after ≡ spacing_after_line spacing (item options.now is_input spacing line.now)) }
     ensures memory { IsOkUnless result Fault.NoMemory }
 {
-    if let Some(name) = line_name(alloc, options, spacing, line)? {
+    if let Some(name) = entry_name_of_line(alloc, options, spacing, line)? {
         names.push(name).map_err(|_| Fault::NoMemory)?;
     }
     match read_item(alloc, options, spacing, is_input, line)? {
-        Item::Listed(entry) => Ok(spacing_after(spacing, entry.style)),
+        Item::Listed(entry) => Ok(spacing_after_entry(spacing, entry.style)),
         _ => Ok(spacing),
     }
 }
 
 // Returns the name of the entry of a line, if it has one, also if that needs other options.
-fn line_name(
+fn entry_name_of_line(
     alloc: Global,
     options: &Options,
     spacing: Spacing,
     line: &[u8],
 ) -> Result<Option<Vec<u8>>, Fault>
     ensures name { IfOk result (λ found. option_map (λ name. name.items) found
-        ≡ line_name options.now spacing line.now) }
+        ≡ entry_name_of_line options.now spacing line.now) }
     ensures memory { IsOkUnless result Fault.NoMemory }
 {
-    let Some(line) = trimmed(line) else {
+    let Some(line) = line_content_unless_comment(line) else {
         return Ok(None);
     };
     match read_line(alloc, options.algorithm, spacing, line)? {
@@ -142,7 +150,7 @@ fn look_for<H: Hashes, D: Disk, K: Output, E: Sink>(
     requires { IsSorted (λ a b. slice_cmp nat_cmp a.items b.items) names.now }
     ensures looked { IfOk result (λ are. (all : List (List ℕ))
         → IsPermutation all (map (λ name. name.items) names.now)
-        → (each : List Bool) × InTurn (IsLookedFor
+        → (each : List Bool) × AreDoneInTurn (NameIsLookedUp
         (world_of host.now.program.name.items D.File.named D.File.failed D.File.failure
         (D.files host.now.disk) H.hashing) options.now all)
         (map (λ thing. thing.items) things.now) session.old session.new each
@@ -168,7 +176,7 @@ fn look_for_one<H: Hashes, D: Disk, K: Output, E: Sink>(
 ) -> Result<bool, AllocError>
     requires { IsSorted (λ a b. slice_cmp nat_cmp a.items b.items) names.now }
     ensures looked { IfOk result (λ is. (all : List (List ℕ))
-        → IsPermutation all (map (λ name. name.items) names.now) → IsLookedFor
+        → IsPermutation all (map (λ name. name.items) names.now) → NameIsLookedUp
         (world_of host.now.program.name.items D.File.named D.File.failed D.File.failure
         (D.files host.now.disk) H.hashing) options.now all thing.now.items session.old session.new
         is) }

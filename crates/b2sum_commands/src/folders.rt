@@ -4,9 +4,16 @@ ghost use Rattle.std.specs.Prelude.{◌≡◌, ℕ, List, [], ◌∷◌, ◌++�
 ghost use Rattle.std.specs.Prelude.{IsOkUnless, codes};
 ghost use Rattle.b2sum_commands.specs.Messages.{Cannot, message};
 ghost use Rattle.std.specs.Option.{option_map};
-ghost use Rattle.b2sum_commands.specs.Folders.{AreSorted, AreWalked, IsListed, below, others_text};
-ghost use Rattle.b2sum_commands.specs.Folders.{entry_name, is_file, is_folder, is_other};
-ghost use Rattle.b2sum_commands.specs.Folders.{listed_names, names_in};
+ghost use Rattle.b2sum_commands.specs.Folders.{
+  IsSortedPermutation,
+  FoldersAreWalked,
+  FolderIsListed,
+  path_in_folder,
+  not_regular_file_messages,
+};
+ghost use Rattle.b2sum_commands.specs.Folders.{entry_path_if, is_file, is_folder_letter};
+ghost use Rattle.b2sum_commands.specs.Folders.{is_other_letter};
+ghost use Rattle.b2sum_commands.specs.Folders.{listed_names, entry_paths_in_list};
 ghost use Rattle.b2sum_commands.specs.World.{OnlyTells, TellsText, world_of};
 
 use crate::devices::{Disk, Fault, OpenFile, Output};
@@ -52,13 +59,13 @@ impl Found {
     fn add_entries(&mut self, alloc: Global, folder: &[u8], list: &[u8]) -> Result<(), AllocError>
         ensures folders { OnOk result (map (λ name. name.items) self.new.folders.items
             ≡ map (λ name. name.items) self.old.folders.items
-            ++ names_in is_folder folder.now list.now) }
+            ++ entry_paths_in_list is_folder_letter folder.now list.now) }
         ensures files { OnOk result (map (λ name. name.items) self.new.files.items
             ≡ map (λ name. name.items) self.old.files.items
-            ++ names_in is_file folder.now list.now) }
+            ++ entry_paths_in_list is_file folder.now list.now) }
         ensures others { OnOk result (map (λ name. name.items) self.new.others.items
             ≡ map (λ name. name.items) self.old.others.items
-            ++ names_in is_other folder.now list.now) }
+            ++ entry_paths_in_list is_other_letter folder.now list.now) }
     {
         let mut rest = list;
         'entry: while let Some((entry, after)) = split_once(rest, 0) {
@@ -73,18 +80,18 @@ impl Found {
     fn add_entry(&mut self, alloc: Global, folder: &[u8], entry: &[u8]) -> Result<(), AllocError>
         ensures folders { OnOk result (map (λ name. name.items) self.new.folders.items
             ≡ map (λ name. name.items) self.old.folders.items
-            ++ entry_name is_folder folder.now entry.now) }
+            ++ entry_path_if is_folder_letter folder.now entry.now) }
         ensures files { OnOk result (map (λ name. name.items) self.new.files.items
             ≡ map (λ name. name.items) self.old.files.items
-            ++ entry_name is_file folder.now entry.now) }
+            ++ entry_path_if is_file folder.now entry.now) }
         ensures others { OnOk result (map (λ name. name.items) self.new.others.items
             ≡ map (λ name. name.items) self.old.others.items
-            ++ entry_name is_other folder.now entry.now) }
+            ++ entry_path_if is_other_letter folder.now entry.now) }
     {
         let Some((kind, name)) = entry.split_first() else {
             return Ok(());
         };
-        let name = below(alloc, folder, name)?;
+        let name = path_in_folder(alloc, folder, name)?;
         match *kind {
             b'd' => push_name(&mut self.folders, name),
             b'f' => push_name(&mut self.files, name),
@@ -108,8 +115,8 @@ fn copied(alloc: Global, name: &[u8]) -> Result<Vec<u8>, AllocError>
 }
 
 // Returns the name of an entry of a folder.
-fn below(alloc: Global, folder: &[u8], name: &[u8]) -> Result<Vec<u8>, AllocError>
-    ensures { IfOk result (λ whole. whole.items ≡ below folder.now name.now) }
+fn path_in_folder(alloc: Global, folder: &[u8], name: &[u8]) -> Result<Vec<u8>, AllocError>
+    ensures { IfOk result (λ whole. whole.items ≡ path_in_folder folder.now name.now) }
 {
     let mut whole = copied(alloc, folder)?;
     if !folder.ends_with(b"/".as_slice()) {
@@ -127,7 +134,7 @@ pub(crate) fn walk<H: Hashes, D: Disk, K: Output, E: Sink>(
     session: &mut Session<D::File, K, E>,
     given: &[Vec<u8>],
 ) -> Result<(Found, bool), Fault>
-    ensures walked { IfOk result (λ found. AreWalked
+    ensures walked { IfOk result (λ found. FoldersAreWalked
         (world_of host.now.program.name.items D.File.named D.File.failed D.File.failure
         (D.files host.now.disk) H.hashing) (map (λ name. name.items) given.now)
         session.old session.new (map (λ name. name.items) found.0.files.items)
@@ -150,9 +157,9 @@ pub(crate) fn walk<H: Hashes, D: Disk, K: Output, E: Sink>(
 
 // Returns what is found, with the files, and all else, in the order of their names.
 fn in_order(found: Found) -> Found
-    ensures files { AreSorted (map (λ name. name.items) found.files.items)
+    ensures files { IsSortedPermutation (map (λ name. name.items) found.files.items)
         (map (λ name. name.items) result.files.items) }
-    ensures others { AreSorted (map (λ name. name.items) found.others.items)
+    ensures others { IsSortedPermutation (map (λ name. name.items) found.others.items)
         (map (λ name. name.items) result.others.items) }
 {
     let mut found = found;
@@ -169,18 +176,18 @@ fn list_folder<H: Hashes, D: Disk, K: Output, E: Sink>(
     found: &mut Found,
 ) -> Result<bool, Fault>
     ensures listed { IfOk result (λ is. (list : Option (List ℕ)) × (is ≡ is_some list)
-        × IsListed
+        × FolderIsListed
         (world_of host.now.program.name.items D.File.named D.File.failed D.File.failure
         (D.files host.now.disk) H.hashing) folder.now session.old session.new list
         × (map (λ name. name.items) found.new.folders.items
         ≡ map (λ name. name.items) found.old.folders.items
-        ++ listed_names is_folder folder.now list)
+        ++ listed_names is_folder_letter folder.now list)
         × (map (λ name. name.items) found.new.files.items
         ≡ map (λ name. name.items) found.old.files.items
         ++ listed_names is_file folder.now list)
         × (map (λ name. name.items) found.new.others.items
         ≡ map (λ name. name.items) found.old.others.items
-        ++ listed_names is_other folder.now list)) }
+        ++ listed_names is_other_letter folder.now list)) }
     ensures held { session.new.held ≡ session.old.held }
     ensures memory { IsOkUnless result Fault.NoMemory }
 {
@@ -197,7 +204,7 @@ fn read_folder<H: Hashes, D: Disk, K: Output, E: Sink>(
     session: &mut Session<D::File, K, E>,
     folder: &[u8],
 ) -> Result<Option<Vec<u8>>, Fault>
-    ensures listed { IfOk result (λ found. IsListed
+    ensures listed { IfOk result (λ found. FolderIsListed
         (world_of host.now.program.name.items D.File.named D.File.failed D.File.failure
         (D.files host.now.disk) H.hashing) folder.now session.old session.new
         (option_map (λ list. list.items) found)) }
@@ -222,7 +229,7 @@ pub(crate) fn warn_of_others<F: OpenFile, K: Output, E: Sink>(
     names: &[Vec<u8>],
 ) -> Result<(), AllocError>
     ensures told { OnOk result (TellsText session.old session.new
-        (others_text program.now.name.items (map (λ name. name.items) names.now))) }
+        (not_regular_file_messages program.now.name.items (map (λ name. name.items) names.now))) }
     ensures only { OnlyTells session.old session.new }
 {
     for name in names {

@@ -3,7 +3,7 @@
 ghost use Rattle.std.specs.Prelude.{◌≡◌, ◌↔◌, ℕ, ◌<◌, ◌≤◌, ◌^◌, List, length, take, IsTrue, OnOk};
 ghost use Rattle.std.specs.Prelude.{true, false, ◌||◌, IsErr, [], map, slice_index_or};
 ghost use Rattle.std.specs.Result.{IsErrOf};
-ghost use Rattle.blake2_streams.specs.Streams.{GivesAll};
+ghost use Rattle.blake2_streams.specs.Streams.{ReturnsAllBytes};
 
 use crate::devices::OpenFile;
 use crate::options::Options;
@@ -51,7 +51,7 @@ pub trait Hashes {
         ensures refused { IsErr result
             → (S.failed source.new || hashing.rejects options.now function) ≡ true }
         ensures whole { OnOk result ((text : List ℕ)
-            × GivesAll (S.left source.old) (S.left source.new) text
+            × ReturnsAllBytes (S.left source.old) (S.left source.new) text
             × (take function.bytes out.new
             ≡ hashing.digest options.now function text)) }
         ensures name { S.named source.new ≡ S.named source.old };

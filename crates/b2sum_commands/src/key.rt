@@ -5,14 +5,25 @@ ghost use Rattle.std.specs.Prelude.{IfOk, IfSome, IsOkUnless};
 ghost use Rattle.std.specs.List.{list_all};
 ghost use Rattle.std.specs.Option.{option_map};
 ghost use Rattle.hex.specs.Hex.{is_hex_digit};
-ghost use Rattle.b2sum_commands.specs.KeyTexts.{are_digits, fitting, key_in, key_room};
-ghost use Rattle.b2sum_commands.specs.KeyTexts.{without_newline};
+ghost use Rattle.b2sum_commands.specs.KeyTexts.{
+  are_digits,
+  key_if_fitting,
+  key_of_file_bytes,
+  max_key_file_bytes,
+};
+ghost use Rattle.b2sum_commands.specs.KeyTexts.{without_final_newline};
 ghost use Rattle.std.specs.Io.KnownBytes.{Consumes, IsAtEnd};
 ghost use Rattle.std.specs.declared.io.Error.{Error};
 ghost use Rattle.b2sum_commands.specs.Messages.{Cannot, is_standard_input, message};
-ghost use Rattle.b2sum_commands.specs.World.{HasError, IsKey, IsNoKey, IsWritten, world_of};
-ghost use Rattle.b2sum_commands.specs.ProgramRuns.{IsPastKey, TellsNoKey, key_file_bytes};
-ghost use Rattle.b2sum_commands.specs.ProgramRuns.{key_reason};
+ghost use Rattle.b2sum_commands.specs.World.{
+  OpenFileHasError,
+  FileHasKey,
+  FileHasNoKey,
+  SinkAcceptsOrFails,
+  world_of,
+};
+ghost use Rattle.b2sum_commands.specs.ProgramRuns.{InputIsPastKey, TellsNoKey, key_file_bytes};
+ghost use Rattle.b2sum_commands.specs.ProgramRuns.{no_key_reason};
 
 use crate::devices::{Disk, Fault, OpenFile, Output};
 use crate::hashes::Hashes;
@@ -35,14 +46,14 @@ pub(crate) fn read_key<H: Hashes, D: Disk, K: Output, E: Sink>(
 ) -> Result<Option<Vec<u8>>, Fault>
     requires hidden { is_hidden ≡ D.hides host.now.disk }
     requires most { form.most ≤ 64 }
-    ensures key { IfOk result (λ found. IfSome found (λ key. IsKey
+    ensures key { IfOk result (λ found. IfSome found (λ key. FileHasKey
         (key_file_bytes (D.files host.now.disk) session.old.left name.now) form.is_hex form.most
         key.items)) }
     ensures some { IfOk result (λ found. IfSome found (λ key. 1 ≤ length key.items)) }
     ensures fits { IfOk result (λ found. IfSome found (λ key. length key.items ≤ form.most)) }
     ensures kept { IfOk result (λ found. IfSome found (λ _. (left : Option (List ℕ))
         × (session.new ≡ record session.old { left = left })
-        × IsPastKey (is_standard_input name.now) session.old.left left)) }
+        × InputIsPastKey (is_standard_input name.now) session.old.left left)) }
     ensures told { IfOk result (λ found. found ≡ None → TellsNoKey
         (world_of host.now.program.name.items D.File.named D.File.failed D.File.failure
         (D.files host.now.disk) H.hashing) name.now form.is_hex form.most session.old
@@ -83,42 +94,42 @@ fn read_key_from<H, D: Disk, E: Sink>(
     requires named { D.File.named file.old ≡ name.now }
     requires most { form.most ≤ 64 }
     ensures key { IfOk result (λ key. IfSome key
-        (λ bytes. IsKey (D.File.left file.old) form.is_hex form.most bytes.items)) }
+        (λ bytes. FileHasKey (D.File.left file.old) form.is_hex form.most bytes.items)) }
     ensures some { IfOk result (λ key. IfSome key (λ bytes. 1 ≤ length bytes.items)) }
     ensures fits { IfOk result (λ key. IfSome key (λ bytes. length bytes.items ≤ form.most)) }
     ensures end { IfOk result (λ key. IfSome key
-        (λ _. IsPastKey true (D.File.left file.old) (D.File.left file.new))) }
+        (λ _. InputIsPastKey true (D.File.left file.old) (D.File.left file.new))) }
     ensures name { D.File.named file.new ≡ name.now }
     ensures kept { IfOk result (λ key. IfSome key (λ _. messages.new ≡ messages.old)) }
     ensures told { IfOk result (λ key. key ≡ None → (reason : List ℕ)
-        × (((e : Error) × HasError D.File.named D.File.failed D.File.failure name.now e
+        × (((e : Error) × OpenFileHasError D.File.named D.File.failed D.File.failure name.now e
         × (D.files host.now.disk).describes e reason)
-        ⊎ (IsNoKey (D.File.left file.old) form.is_hex form.most
-        × (reason ≡ key_reason form.is_hex form.most)))
-        × IsWritten (E.failed messages.old) (E.failed messages.new) (E.held messages.old)
+        ⊎ (FileHasNoKey (D.File.left file.old) form.is_hex form.most
+        × (reason ≡ no_key_reason form.is_hex form.most)))
+        × SinkAcceptsOrFails (E.failed messages.old) (E.failed messages.new) (E.held messages.old)
         (E.held messages.new) (message host.now.program.name.items (Cannot name.now reason))) }
     ensures memory { IsOkUnless result Fault.NoMemory }
 {
     let alloc = host.program.alloc;
-    let Some(bytes) = read_bytes(alloc, file, key_room(form))? else {
+    let Some(bytes) = read_bytes(alloc, file, max_key_file_bytes(form))? else {
         warn_of_file(host, file.last_error(), messages, name)?;
         return Ok(None);
     };
-    if bytes.len() > key_room(form) {
-        warn_of_name(&host.program, messages, name, key_reason(form))?;
+    if bytes.len() > max_key_file_bytes(form) {
+        warn_of_name(&host.program, messages, name, no_key_reason(form))?;
         return Ok(None);
     }
-    let Some(key) = key_in(alloc, form, bytes)? else {
-        warn_of_name(&host.program, messages, name, key_reason(form))?;
+    let Some(key) = key_of_file_bytes(alloc, form, bytes)? else {
+        warn_of_name(&host.program, messages, name, no_key_reason(form))?;
         return Ok(None);
     };
     Ok(Some(key))
 }
 
 // Returns the most bytes that a file with a key has.
-fn key_room(form: Form) -> usize
+fn max_key_file_bytes(form: Form) -> usize
     requires { form.most ≤ 64 }
-    ensures { result ≡ key_room form.is_hex form.most }
+    ensures { result ≡ max_key_file_bytes form.is_hex form.most }
 {
     if form.is_hex {
         2 * form.most + 1
@@ -130,26 +141,26 @@ fn key_room(form: Form) -> usize
 // Returns the key that the bytes of a key file have, or `None` if they are no key. It has a
 // separate frame, as `read_bytes` has.
 #[inline(never)]
-fn key_in(alloc: Global, form: Form, bytes: Vec<u8>) -> Result<Option<Vec<u8>>, Fault>
+fn key_of_file_bytes(alloc: Global, form: Form, bytes: Vec<u8>) -> Result<Option<Vec<u8>>, Fault>
     ensures key { IfOk result (λ found. option_map (λ key. key.items) found
-        ≡ key_in form.is_hex form.most bytes.items) }
+        ≡ key_of_file_bytes form.is_hex form.most bytes.items) }
     ensures some { IfOk result (λ found. IfSome found (λ key. 1 ≤ length key.items)) }
     ensures fits { IfOk result (λ found. IfSome found (λ key. length key.items ≤ form.most)) }
     ensures memory { IsOkUnless result Fault.NoMemory }
 {
     if !form.is_hex {
-        return Ok(fitting(form.most, bytes));
+        return Ok(key_if_fitting(form.most, bytes));
     }
-    match hex::decode(alloc, without_newline(bytes.as_slice())) {
-        Ok(key) => Ok(fitting(form.most, key)),
+    match hex::decode(alloc, without_final_newline(bytes.as_slice())) {
+        Ok(key) => Ok(key_if_fitting(form.most, key)),
         Err(FromHexError::OutOfMemory) => Err(Fault::NoMemory),
         Err(_) => Ok(None),
     }
 }
 
 // Returns the key, if it has at least one byte and at most so many.
-fn fitting(most: usize, key: Vec<u8>) -> Option<Vec<u8>>
-    ensures key { option_map (λ k. k.items) result ≡ fitting most key.items }
+fn key_if_fitting(most: usize, key: Vec<u8>) -> Option<Vec<u8>>
+    ensures key { option_map (λ k. k.items) result ≡ key_if_fitting most key.items }
     ensures some { IfSome result (λ k. 1 ≤ length k.items) }
     ensures fits { IfSome result (λ k. length k.items ≤ most) }
 {
@@ -161,8 +172,8 @@ fn fitting(most: usize, key: Vec<u8>) -> Option<Vec<u8>>
 }
 
 // Returns the text without one newline at its end.
-fn without_newline(text: &[u8]) -> &[u8]
-    ensures { result.now ≡ without_newline text.now }
+fn without_final_newline(text: &[u8]) -> &[u8]
+    ensures { result.now ≡ without_final_newline text.now }
 {
     if text.is_empty() {
         return text;
@@ -180,7 +191,7 @@ fn without_newline(text: &[u8]) -> &[u8]
 pub(crate) fn are_digits(bytes: &[u8]) -> bool
     ensures { result ≡ are_digits bytes.now }
 {
-    let digits = without_newline(bytes);
+    let digits = without_final_newline(bytes);
     !digits.is_empty() && all_digits(digits)
 }
 
@@ -204,8 +215,8 @@ fn is_digit(byte: u8) -> bool
 }
 
 // Returns why a file has no key.
-fn key_reason(form: Form) -> &'static [u8]
-    ensures { result.now ≡ key_reason form.is_hex form.most }
+fn no_key_reason(form: Form) -> &'static [u8]
+    ensures { result.now ≡ no_key_reason form.is_hex form.most }
 {
     match (form.is_hex, form.most == 64) {
         (false, true) => b"a key has 1 to 64 bytes",

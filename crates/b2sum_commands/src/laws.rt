@@ -3,9 +3,15 @@
 ghost use Rattle.std.specs.Prelude.{◌≡◌, ◌≤◌, map, true, false, IfOk, IsErrOf};
 ghost use Rattle.b2sum_commands.specs.declared.options.Shape.TheVariants.{Named};
 ghost use Rattle.b2sum_commands.specs.World.{world_of};
-ghost use Rattle.b2sum_commands.specs.ReadBack.{IsManifest};
-ghost use Rattle.b2sum_commands.specs.CommandLineLaws.{FilesFollow, LettersAreWords};
-ghost use Rattle.b2sum_commands.specs.CommandLineLaws.{LettersHaveValues, NamesHaveValues};
+ghost use Rattle.b2sum_commands.specs.ReadBack.{ManifestIsPrinted};
+ghost use Rattle.b2sum_commands.specs.CommandLineLaws.{
+  WordsAfterDoubleHyphenAreFiles,
+  JoinedLettersEqualSeparateWords,
+};
+ghost use Rattle.b2sum_commands.specs.CommandLineLaws.{
+  LetterValueMayFollowAsWord,
+  NameValueMayFollowAsWord,
+};
 
 use crate::devices::{Disk, Fault, Output};
 use crate::hashes::Hashes;
@@ -33,7 +39,7 @@ pub fn print_manifest<H: Hashes, D: Disk, K: Output, E: Sink>(
     requires most { options.now.bytes ≤ 64 }
     requires named { options.now.shape ≡ Named }
     requires lines { options.now.ends_zero ≡ false }
-    ensures manifest { IfOk result (IsManifest
+    ensures manifest { IfOk result (ManifestIsPrinted
         (world_of host.now.program.name.items D.File.named D.File.failed D.File.failure
         (D.files host.now.disk) H.hashing) options.now
         (map (λ name. name.items) names.now) session.old session.new) }
@@ -44,23 +50,23 @@ pub fn print_manifest<H: Hashes, D: Disk, K: Output, E: Sink>(
 
 /// Does nothing. Its contract says that letters may stand in one word or in several: `-ab` is
 /// `-a -b`, if `a` is the letter of an option without a value.
-pub fn letters_are_words()
-    ensures { LettersAreWords }
+pub fn joined_letters_equal_separate_words()
+    ensures { JoinedLettersEqualSeparateWords }
 {}
 
 /// Does nothing. Its contract says that the value of a letter may follow it, or be the next word:
 /// `-aVALUE` is `-a VALUE`.
-pub fn letters_have_values()
-    ensures { LettersHaveValues }
+pub fn letter_value_may_follow_as_word()
+    ensures { LetterValueMayFollowAsWord }
 {}
 
 /// Does nothing. Its contract says that the value of a long option may follow `=`, or be the next
 /// word: `--name=VALUE` is `--name VALUE`, also if the name is cut short.
-pub fn names_have_values()
-    ensures { NamesHaveValues }
+pub fn name_value_may_follow_as_word()
+    ensures { NameValueMayFollowAsWord }
 {}
 
 /// Does nothing. Its contract says that after `--` each word is a file, whatever it begins with.
-pub fn files_follow()
-    ensures { FilesFollow }
+pub fn words_after_double_hyphen_are_files()
+    ensures { WordsAfterDoubleHyphenAreFiles }
 {}

@@ -2,13 +2,24 @@
 
 ghost use Rattle.std.specs.Prelude.{◌≡◌, ◌++◌, [], OnOk, if◌then◌else◌};
 ghost use Rattle.b2sum_lines.specs.EntryViews.{entry_value};
-ghost use Rattle.b2sum_commands.specs.LineNeeds.{algorithm_number, has_algorithm, has_needs, meets};
-ghost use Rattle.b2sum_commands.specs.LineNeeds.{has_any, has_demanded_length, is_slow};
-ghost use Rattle.b2sum_commands.specs.LineNeeds.{same_needs, both_lack, needs_union, lacks_of};
+ghost use Rattle.b2sum_commands.specs.LineNeeds.{
+  algorithm_number,
+  algorithm_is_allowed,
+  matches_tagged_needs,
+  meets,
+};
+ghost use Rattle.b2sum_commands.specs.LineNeeds.{needs_anything, has_demanded_length};
+ghost use Rattle.b2sum_commands.specs.LineNeeds.{is_small_leaf_tree};
+ghost use Rattle.b2sum_commands.specs.LineNeeds.{same_needs, lacks_union, needs_union, lacks_of};
 ghost use Rattle.b2sum_commands.specs.LineNeeds.{needs_of, no_lacks};
-ghost use Rattle.b2sum_commands.specs.LineNeeds.{algorithm_text, lacks_text, length_text};
-ghost use Rattle.b2sum_commands.specs.LineNeeds.{length_for, needs_algorithm, needs_length};
-ghost use Rattle.b2sum_commands.specs.LineNeeds.{needs_options, needs_difference};
+ghost use Rattle.b2sum_commands.specs.LineNeeds.{algorithm_option_text, lacks_text};
+ghost use Rattle.b2sum_commands.specs.LineNeeds.{length_option_text};
+ghost use Rattle.b2sum_commands.specs.LineNeeds.{
+  demanded_length_for,
+  needs_other_algorithm,
+  needs_other_length,
+};
+ghost use Rattle.b2sum_commands.specs.LineNeeds.{needs_options_text, needs_difference};
 
 use crate::options::Options;
 use b2sum_lines::{Algorithm, Entry, Needs, Style};
@@ -20,8 +31,8 @@ pub(crate) fn meets(options: &Options, entry: &Entry) -> bool
     ensures { result ≡ meets options.now (entry_value entry.now) }
 {
     has_length(options, entry.digest.as_slice())
-        && has_needs(options, entry.style)
-        && has_algorithm(options, entry.algorithm)
+        && matches_tagged_needs(options, entry.style)
+        && algorithm_is_allowed(options, entry.algorithm)
 }
 
 // Returns whether a digest has the length that the options demand, if they demand one.
@@ -33,8 +44,8 @@ fn has_length(options: &Options, digest: &[u8]) -> bool
 
 // Returns whether a line of this style needs what the options have, and nothing else. A line
 // without a tag does not say what it needs.
-fn has_needs(options: &Options, style: Style) -> bool
-    ensures { result ≡ has_needs options.now style }
+fn matches_tagged_needs(options: &Options, style: Style) -> bool
+    ensures { result ≡ matches_tagged_needs options.now style }
 {
     match style {
         Style::Tagged(needs) => same_needs(needs, options.needs),
@@ -50,10 +61,12 @@ fn same_needs(a: Needs, b: Needs) -> bool
 
 // Returns whether the options can check digests of this algorithm: one that they demand, or that a
 // key, a salt or a personalization is for, or that is slow, is theirs.
-fn has_algorithm(options: &Options, algorithm: Algorithm) -> bool
-    ensures { result ≡ has_algorithm options.now algorithm }
+fn algorithm_is_allowed(options: &Options, algorithm: Algorithm) -> bool
+    ensures { result ≡ algorithm_is_allowed options.now algorithm }
 {
-    let is_any = !(options.demands_algorithm || has_any(options.needs) || is_slow(algorithm));
+    let is_any = !(options.demands_algorithm
+        || needs_anything(options.needs)
+        || is_small_leaf_tree(algorithm));
     is_any || number_of(algorithm) == number_of(options.algorithm)
 }
 
@@ -61,8 +74,8 @@ fn has_algorithm(options: &Options, algorithm: Algorithm) -> bool
 const LEAF_BYTES: u32 = 1024;
 
 // Returns whether the algorithm is a tree of small leaves.
-fn is_slow(algorithm: Algorithm) -> bool
-    ensures { result ≡ is_slow algorithm }
+fn is_small_leaf_tree(algorithm: Algorithm) -> bool
+    ensures { result ≡ is_small_leaf_tree algorithm }
 {
     match algorithm {
         Algorithm::Tree(leaf) => leaf < LEAF_BYTES,
@@ -70,8 +83,8 @@ fn is_slow(algorithm: Algorithm) -> bool
     }
 }
 
-fn has_any(needs: Needs) -> bool
-    ensures { result ≡ has_any needs }
+fn needs_anything(needs: Needs) -> bool
+    ensures { result ≡ needs_anything needs }
 {
     needs.key || needs.salt || needs.personal
 }
@@ -128,12 +141,12 @@ impl Lacks {
         Lacks {
             missing: needs_difference(needs, options.needs),
             unwanted: needs_difference(options.needs, needs),
-            algorithm: if needs_algorithm(options, entry) {
+            algorithm: if needs_other_algorithm(options, entry) {
                 Some(entry.algorithm)
             } else {
                 None
             },
-            bytes: if needs_length(options, entry) {
+            bytes: if needs_other_length(options, entry) {
                 Some(entry.digest.len())
             } else {
                 None
@@ -143,7 +156,7 @@ impl Lacks {
 
     /// Adds what another line lacks.
     pub(crate) fn add(&mut self, other: Lacks)
-        ensures { self.new ≡ both_lack self.old other }
+        ensures { self.new ≡ lacks_union self.old other }
     {
         self.missing = needs_union(self.missing, other.missing);
         self.unwanted = needs_union(self.unwanted, other.unwanted);
@@ -155,10 +168,10 @@ impl Lacks {
     pub(crate) fn push_options(self, text: &mut Vec<u8>) -> Result<(), AllocError>
         ensures { OnOk result (text.new.items ≡ text.old.items ++ lacks_text self) }
     {
-        push_needs(text, b" ", self.missing)?;
-        push_needs(text, b" no ", self.unwanted)?;
-        push_algorithm(text, self.algorithm)?;
-        push_length(text, self.bytes)
+        push_needs_options(text, b" ", self.missing)?;
+        push_needs_options(text, b" no ", self.unwanted)?;
+        push_algorithm_option(text, self.algorithm)?;
+        push_length_option(text, self.bytes)
     }
 }
 
@@ -173,24 +186,24 @@ fn needs_of(options: &Options, style: Style) -> Needs
 }
 
 // Returns whether an entry is of another algorithm, and cannot be checked without that.
-fn needs_algorithm(options: &Options, entry: &Entry) -> bool
-    ensures { result ≡ needs_algorithm options.now (entry_value entry.now) }
+fn needs_other_algorithm(options: &Options, entry: &Entry) -> bool
+    ensures { result ≡ needs_other_algorithm options.now (entry_value entry.now) }
 {
     number_of(entry.algorithm) != number_of(options.algorithm)
         && (options.demands_algorithm
-            || has_any(needs_of(options, entry.style))
-            || is_slow(entry.algorithm))
+            || needs_anything(needs_of(options, entry.style))
+            || is_small_leaf_tree(entry.algorithm))
 }
 
 // Returns whether an entry's digest has another length than the one that is demanded, or would be
 // under a key that the line needs.
-fn needs_length(options: &Options, entry: &Entry) -> bool
-    ensures { result ≡ needs_length options.now (entry_value entry.now) }
+fn needs_other_length(options: &Options, entry: &Entry) -> bool
+    ensures { result ≡ needs_other_length options.now (entry_value entry.now) }
 {
     let needs = needs_of(options, entry.style);
     !(options.needs.key && !needs.key)
         && (options.demands_length || needs.key)
-        && entry.digest.len() != length_for(options, entry)
+        && entry.digest.len() != demanded_length_for(options, entry)
 }
 
 // Returns what the first has, and the second has not.
@@ -217,11 +230,11 @@ fn needs_union(first: Needs, second: Needs) -> Needs
 
 // Returns the length in bytes that the options demand: with the algorithm of the entry, if they are
 // to have that, the longest if they have the longest of their own.
-fn length_for(options: &Options, entry: &Entry) -> usize
-    ensures { result ≡ length_for options.now (entry_value entry.now) }
+fn demanded_length_for(options: &Options, entry: &Entry) -> usize
+    ensures { result ≡ demanded_length_for options.now (entry_value entry.now) }
 {
     let is_longest = options.bytes == options.algorithm.max_bytes();
-    if !options.demands_length || (needs_algorithm(options, entry) && is_longest) {
+    if !options.demands_length || (needs_other_algorithm(options, entry) && is_longest) {
         entry.algorithm.max_bytes()
     } else {
         options.bytes
@@ -229,8 +242,8 @@ fn length_for(options: &Options, entry: &Entry) -> usize
 }
 
 // Appends the options of a key, a salt and a personalization, with these bytes before each.
-fn push_needs(text: &mut Vec<u8>, before: &[u8], needs: Needs) -> Result<(), AllocError>
-    ensures { OnOk result (text.new.items ≡ text.old.items ++ needs_options before.now needs) }
+fn push_needs_options(text: &mut Vec<u8>, before: &[u8], needs: Needs) -> Result<(), AllocError>
+    ensures { OnOk result (text.new.items ≡ text.old.items ++ needs_options_text before.now needs) }
 {
     push_if(text, needs.key, before, b"--key-file")?;
     push_if(text, needs.salt, before, b"--salt")?;
@@ -255,8 +268,8 @@ fn push_if(
 }
 
 // Appends the option of an algorithm, if there is one, with a space before it.
-fn push_algorithm(text: &mut Vec<u8>, algorithm: Option<Algorithm>) -> Result<(), AllocError>
-    ensures { OnOk result (text.new.items ≡ text.old.items ++ algorithm_text algorithm) }
+fn push_algorithm_option(text: &mut Vec<u8>, algorithm: Option<Algorithm>) -> Result<(), AllocError>
+    ensures { OnOk result (text.new.items ≡ text.old.items ++ algorithm_option_text algorithm) }
 {
     match algorithm {
         None => Ok(()),
@@ -272,8 +285,8 @@ fn push_algorithm(text: &mut Vec<u8>, algorithm: Option<Algorithm>) -> Result<()
 }
 
 // Appends the option of digests of so many bytes, if there is one, with a space before it.
-fn push_length(text: &mut Vec<u8>, bytes: Option<usize>) -> Result<(), AllocError>
-    ensures { OnOk result (text.new.items ≡ text.old.items ++ length_text bytes) }
+fn push_length_option(text: &mut Vec<u8>, bytes: Option<usize>) -> Result<(), AllocError>
+    ensures { OnOk result (text.new.items ≡ text.old.items ++ length_option_text bytes) }
 {
     let Some(bytes) = bytes else {
         return Ok(());

@@ -2,7 +2,7 @@
 
 ghost use Rattle.std.specs.Prelude.{◌≡◌, ℕ, List, Option, [], true, length, IfOk, IsErr};
 ghost use Rattle.std.specs.Io.KnownBytes.{Consumes, IsAtEnd};
-ghost use Rattle.b2sum_commands.specs.LineReads.{IsCutOff, IsAfter};
+ghost use Rattle.b2sum_commands.specs.LineReads.{LineIsCutOff, SourceIsAfterLine};
 
 use crate::devices::OpenFile;
 use blake2_streams::DeviceError;
@@ -66,8 +66,8 @@ impl LineReader {
     ) -> Result<LineEnd, AllocError>
         ensures line { IfOk result (λ end. (more : List ℕ) × (rest : Option (List ℕ))
             × Consumes (S.left source.old) rest more
-            × IsCutOff end self.old more line.new.items self.new
-            × IsAfter end rest (S.left source.new) (S.failed source.new ≡ true)) }
+            × LineIsCutOff end self.old more line.new.items self.new
+            × SourceIsAfterLine end rest (S.left source.new) (S.failed source.new ≡ true)) }
         ensures name { S.named source.new ≡ S.named source.old }
     {
         line.clear();

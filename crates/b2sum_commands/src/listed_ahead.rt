@@ -1,10 +1,10 @@
 //! Files that a manifest lists, and that are read before the turn of their lines.
 
 ghost use Rattle.std.specs.Prelude.{length};
-ghost use Rattle.b2sum_commands.specs.ReadAhead.{AreFound};
+ghost use Rattle.b2sum_commands.specs.ReadAhead.{AreDigestsOfFiles};
 
-use crate::ahead::{Ahead, are_same, is_due, read_group, width};
-use crate::check::{Item, read_item, spacing_after};
+use crate::ahead::{Ahead, are_same, begins_group, read_group, width};
+use crate::check::{Item, read_item, spacing_after_entry};
 use crate::devices::{Disk, Fault};
 use crate::hashes::{Function, Hashes};
 use crate::options::Options;
@@ -33,10 +33,12 @@ pub(crate) fn go_on_in_list<H: Hashes, D: Disk>(
     lines: &Unchecked<'_>,
     ahead: &mut Ahead,
 )
-    requires { AreFound (D.files host.now.disk) H.hashing options.now ahead.old.found.items }
-    ensures { AreFound (D.files host.now.disk) H.hashing options.now ahead.new.found.items }
+    requires { AreDigestsOfFiles (D.files host.now.disk) H.hashing options.now
+        ahead.old.found.items }
+    ensures { AreDigestsOfFiles (D.files host.now.disk) H.hashing options.now
+        ahead.new.found.items }
 {
-    if !is_due(options, ahead) {
+    if !begins_group(options, ahead) {
         return;
     }
     let most = width(ahead);
@@ -58,7 +60,7 @@ fn listed_names(
         return Ok(None);
     };
     let function = function_of(&first);
-    let mut spacing = spacing_after(lines.spacing, first.style);
+    let mut spacing = spacing_after_entry(lines.spacing, first.style);
     let mut names = Vec::new(alloc);
     names.push(first.name).map_err(|_| Fault::NoMemory)?;
     let mut rest = lines.rest;
@@ -76,7 +78,7 @@ fn listed_names(
             if !are_same(function_of(&entry), function) {
                 break;
             }
-            spacing = spacing_after(spacing, entry.style);
+            spacing = spacing_after_entry(spacing, entry.style);
             names.push(entry.name).map_err(|_| Fault::NoMemory)?;
         }
         rest = after;

@@ -3,13 +3,13 @@
 ghost use Rattle.std.specs.Prelude.{◌≡◌, ◌++◌, ◌∷◌, [], codes, IfOk, IsErr, OnOk, not, true};
 ghost use Rattle.std.specs.Prelude.{◌==◌, List, ℕ, ◌⊎◌, None, Some};
 ghost use Rattle.b2sum_commands.specs.LineNeeds.{lacks_text};
-ghost use Rattle.b2sum_commands.specs.Messages.{line, message, title_of};
+ghost use Rattle.b2sum_commands.specs.Messages.{line, message, manifest_title};
 ghost use Rattle.b2sum_commands.specs.Messages.{BreaksOff, Cannot, HasNoEntry, HaveCount};
 ghost use Rattle.b2sum_commands.specs.Messages.{DigitsAsKey, Foreign, LineNeeds};
 ghost use Rattle.b2sum_commands.specs.Messages.{Improper, LinesNeed, Message, NoMemory, ShortMacs};
 ghost use Rattle.b2sum_commands.specs.Messages.{Usage, Value, VerifiesNone, WriteFailed};
 ghost use Rattle.b2sum_commands.specs.Messages.{message_if};
-ghost use Rattle.b2sum_commands.specs.World.{IsWriteError, IsWritten};
+ghost use Rattle.b2sum_commands.specs.World.{IsWriteError, SinkAcceptsOrFails};
 
 use crate::devices::{Disk, print_message};
 use crate::line_needs::Lacks;
@@ -52,7 +52,7 @@ fn warn<E: Sink>(
     third: &[u8],
 ) -> Result<(), AllocError>
     ensures unsaid { IsErr result → sink.new ≡ sink.old }
-    ensures line { OnOk result (IsWritten (E.failed sink.old) (E.failed sink.new)
+    ensures line { OnOk result (SinkAcceptsOrFails (E.failed sink.old) (E.failed sink.new)
         (E.held sink.old) (E.held sink.new)
         (line program.now.name.items first.now second.now third.now)) }
 {
@@ -68,7 +68,8 @@ pub(crate) fn warn_of_name<E: Sink>(
     name: &[u8],
     reason: &[u8],
 ) -> Result<(), AllocError>
-    ensures { OnOk result (IsWritten (E.failed sink.old) (E.failed sink.new) (E.held sink.old)
+    ensures { OnOk result
+        (SinkAcceptsOrFails (E.failed sink.old) (E.failed sink.new) (E.held sink.old)
         (E.held sink.new) (message program.now.name.items (Cannot name.now reason.now))) }
 {
     let name = quoted_name(program.alloc, name)?;
@@ -84,7 +85,8 @@ pub(crate) fn warn_of_file<H, D: Disk, E: Sink>(
 ) -> Result<(), AllocError>
     ensures { OnOk result ((reason : List ℕ)
         × (D.files host.now.disk).describes error reason
-        × IsWritten (E.failed sink.old) (E.failed sink.new) (E.held sink.old) (E.held sink.new)
+        × SinkAcceptsOrFails (E.failed sink.old) (E.failed sink.new) (E.held sink.old)
+        (E.held sink.new)
         (message host.now.program.name.items (Cannot name.now reason))) }
 {
     let text = host.disk.reason_of(host.program.alloc, error)?;
@@ -99,9 +101,10 @@ fn warn_of_manifest<E: Sink>(
     first: &[u8],
     second: &[u8],
 ) -> Result<(), AllocError>
-    ensures { OnOk result (IsWritten (E.failed sink.old) (E.failed sink.new) (E.held sink.old)
+    ensures { OnOk result
+        (SinkAcceptsOrFails (E.failed sink.old) (E.failed sink.new) (E.held sink.old)
         (E.held sink.new)
-        (line program.now.name.items (title_of name.now) first.now second.now)) }
+        (line program.now.name.items (manifest_title name.now) first.now second.now)) }
 {
     let shown: &[u8] = if is_standard_input(name) {
         b"standard input"
@@ -118,7 +121,8 @@ pub(crate) fn warn_of_read<E: Sink>(
     sink: &mut E,
     name: &[u8],
 ) -> Result<(), AllocError>
-    ensures { OnOk result (IsWritten (E.failed sink.old) (E.failed sink.new) (E.held sink.old)
+    ensures { OnOk result
+        (SinkAcceptsOrFails (E.failed sink.old) (E.failed sink.new) (E.held sink.old)
         (E.held sink.new) (message program.now.name.items (BreaksOff name.now))) }
 {
     warn_of_manifest(program, sink, name, b": ", b"read error")
@@ -132,7 +136,8 @@ pub(crate) fn warn_of_line<E: Sink>(
     number: u64,
     algorithm: Algorithm,
 ) -> Result<(), AllocError>
-    ensures { OnOk result (IsWritten (E.failed sink.old) (E.failed sink.new) (E.held sink.old)
+    ensures { OnOk result
+        (SinkAcceptsOrFails (E.failed sink.old) (E.failed sink.new) (E.held sink.old)
         (E.held sink.new)
         (message program.now.name.items (Improper name.now number algorithm))) }
 {
@@ -151,7 +156,8 @@ pub(crate) fn warn_of_foreign<E: Sink>(
     name: &[u8],
     number: u64,
 ) -> Result<(), AllocError>
-    ensures { OnOk result (IsWritten (E.failed sink.old) (E.failed sink.new) (E.held sink.old)
+    ensures { OnOk result
+        (SinkAcceptsOrFails (E.failed sink.old) (E.failed sink.new) (E.held sink.old)
         (E.held sink.new) (message program.now.name.items (Foreign name.now number))) }
 {
     let mut place = Vec::new(program.alloc);
@@ -169,7 +175,8 @@ pub(crate) fn warn_of_line_needs<E: Sink>(
     number: u64,
     lacks: Lacks,
 ) -> Result<(), AllocError>
-    ensures { OnOk result (IsWritten (E.failed sink.old) (E.failed sink.new) (E.held sink.old)
+    ensures { OnOk result
+        (SinkAcceptsOrFails (E.failed sink.old) (E.failed sink.new) (E.held sink.old)
         (E.held sink.new) (message program.now.name.items (LineNeeds name.now number lacks))) }
 {
     let mut place = Vec::new(program.alloc);
@@ -187,7 +194,8 @@ pub(crate) fn warn_of_no_entry<E: Sink>(
     sink: &mut E,
     name: &[u8],
 ) -> Result<(), AllocError>
-    ensures { OnOk result (IsWritten (E.failed sink.old) (E.failed sink.new) (E.held sink.old)
+    ensures { OnOk result
+        (SinkAcceptsOrFails (E.failed sink.old) (E.failed sink.new) (E.held sink.old)
         (E.held sink.new) (message program.now.name.items (HasNoEntry name.now))) }
 {
     let text = b": no properly formatted checksum lines found";
@@ -202,7 +210,8 @@ pub(crate) fn warn_of_needs<E: Sink>(
     count: u64,
     lacks: Lacks,
 ) -> Result<(), AllocError>
-    ensures { OnOk result (IsWritten (E.failed sink.old) (E.failed sink.new) (E.held sink.old)
+    ensures { OnOk result
+        (SinkAcceptsOrFails (E.failed sink.old) (E.failed sink.new) (E.held sink.old)
         (E.held sink.new) (message_if (not (count == 0)) program.now.name.items
         (LinesNeed name.now lacks))) }
 {
@@ -220,7 +229,8 @@ pub(crate) fn warn_of_none<E: Sink>(
     sink: &mut E,
     name: &[u8],
 ) -> Result<(), AllocError>
-    ensures { OnOk result (IsWritten (E.failed sink.old) (E.failed sink.new) (E.held sink.old)
+    ensures { OnOk result
+        (SinkAcceptsOrFails (E.failed sink.old) (E.failed sink.new) (E.held sink.old)
         (E.held sink.new) (message program.now.name.items (VerifiesNone name.now))) }
 {
     warn_of_manifest(program, sink, name, b": no file was verified", b"")
@@ -234,7 +244,8 @@ pub(crate) fn warn_of_count<E: Sink>(
     one: &[u8],
     several: &[u8],
 ) -> Result<(), AllocError>
-    ensures { OnOk result (IsWritten (E.failed sink.old) (E.failed sink.new) (E.held sink.old)
+    ensures { OnOk result
+        (SinkAcceptsOrFails (E.failed sink.old) (E.failed sink.new) (E.held sink.old)
         (E.held sink.new) (message_if (not (count == 0)) program.now.name.items
         (HaveCount count one.now several.now))) }
 {
@@ -254,7 +265,7 @@ pub(crate) fn warn_of_usage<E: Sink>(
     text: &[u8],
 ) -> Result<(), AllocError>
     ensures unsaid { IsErr result → sink.new ≡ sink.old }
-    ensures said { OnOk result (IsWritten (E.failed sink.old) (E.failed sink.new)
+    ensures said { OnOk result (SinkAcceptsOrFails (E.failed sink.old) (E.failed sink.new)
         (E.held sink.old) (E.held sink.new)
         (message program.now.name.items (Usage text.now))) }
 {
@@ -273,7 +284,7 @@ pub(crate) fn warn_of_value<E: Sink>(
     second: &[u8],
 ) -> Result<(), AllocError>
     ensures unsaid { IsErr result → sink.new ≡ sink.old }
-    ensures said { OnOk result (IsWritten (E.failed sink.old) (E.failed sink.new)
+    ensures said { OnOk result (SinkAcceptsOrFails (E.failed sink.old) (E.failed sink.new)
         (E.held sink.old) (E.held sink.new)
         (message program.now.name.items (Value first.now second.now))) }
 {
@@ -290,7 +301,8 @@ pub(crate) fn warn_of_value<E: Sink>(
 /// Says that a write to the output failed, with the text of its error if there is memory for it.
 pub(crate) fn warn_of_write<H, D: Disk, E: Sink>(host: &Host<H, D>, error: io::Error, sink: &mut E)
     ensures { (said : Message) × IsWriteError (D.files host.now.disk) error said
-        × IsWritten (E.failed sink.old) (E.failed sink.new) (E.held sink.old) (E.held sink.new)
+        × SinkAcceptsOrFails (E.failed sink.old) (E.failed sink.new) (E.held sink.old)
+        (E.held sink.new)
         (message host.now.program.name.items said) }
 {
     match line_of_write(host, error) {
@@ -316,7 +328,7 @@ pub(crate) fn warn_of_key_digits<E: Sink>(
     name: &[u8],
 ) -> Result<(), AllocError>
     ensures unsaid { IsErr result → sink.new ≡ sink.old }
-    ensures said { OnOk result (IsWritten (E.failed sink.old) (E.failed sink.new)
+    ensures said { OnOk result (SinkAcceptsOrFails (E.failed sink.old) (E.failed sink.new)
         (E.held sink.old) (E.held sink.new)
         (message program.now.name.items (DigitsAsKey name.now))) }
 {
@@ -327,7 +339,8 @@ pub(crate) fn warn_of_key_digits<E: Sink>(
 
 /// Warns that the digests are MACs that are short enough to be guessed. It allocates nothing.
 pub(crate) fn warn_of_short_macs<E: Sink>(program: &Program, sink: &mut E)
-    ensures { IsWritten (E.failed sink.old) (E.failed sink.new) (E.held sink.old) (E.held sink.new)
+    ensures { SinkAcceptsOrFails (E.failed sink.old) (E.failed sink.new) (E.held sink.old)
+        (E.held sink.new)
         (message program.now.name.items ShortMacs) }
 {
     tell_named(
@@ -339,7 +352,8 @@ pub(crate) fn warn_of_short_macs<E: Sink>(program: &Program, sink: &mut E)
 
 /// Says that an allocation failed. It allocates nothing.
 pub(crate) fn warn_of_memory<E: Sink>(program: &Program, sink: &mut E)
-    ensures { IsWritten (E.failed sink.old) (E.failed sink.new) (E.held sink.old) (E.held sink.new)
+    ensures { SinkAcceptsOrFails (E.failed sink.old) (E.failed sink.new) (E.held sink.old)
+        (E.held sink.new)
         (message program.now.name.items NoMemory) }
 {
     tell_named(program, sink, b": memory exhausted\n");
@@ -347,7 +361,8 @@ pub(crate) fn warn_of_memory<E: Sink>(program: &Program, sink: &mut E)
 
 // Prints the program's name and this text to the sink of messages. It allocates nothing.
 fn tell_named<E: Sink>(program: &Program, sink: &mut E, text: &[u8])
-    ensures { IsWritten (E.failed sink.old) (E.failed sink.new) (E.held sink.old) (E.held sink.new)
+    ensures { SinkAcceptsOrFails (E.failed sink.old) (E.failed sink.new) (E.held sink.old)
+        (E.held sink.new)
         (program.now.name.items ++ text.now) }
 {
     print_message(sink, program.name.as_slice());

@@ -1,14 +1,25 @@
 //! The options of the command line.
 
 ghost use Rattle.std.specs.Prelude.{◌≡◌, ◌≤◌, IfOk, OnOk, Some, Ok, IfErr, ◌++◌, ◌∷◌, [], map};
-ghost use Rattle.b2sum_commands.specs.CommandLine.{set_flag, set_value, no_choice};
-ghost use Rattle.b2sum_commands.specs.CommandLine.{flag_named, value_or_next, read_letters};
-ghost use Rattle.b2sum_commands.specs.CommandLine.{read_switch, read_option_with_value, read_long};
+ghost use Rattle.b2sum_commands.specs.CommandLine.{set_flag, set_value, default_choice};
+ghost use Rattle.b2sum_commands.specs.CommandLine.{flag_named, value_here_or_next_word};
+ghost use Rattle.b2sum_commands.specs.CommandLine.{read_letters};
+ghost use Rattle.b2sum_commands.specs.CommandLine.{
+  read_unjoined_option,
+  read_joined_option,
+  read_long_option,
+};
 ghost use Rattle.b2sum_commands.specs.CommandLine.{read_option_or_file};
-ghost use Rattle.b2sum_commands.specs.CommandLine.{names_files, read_next, reading};
-ghost use Rattle.b2sum_commands.specs.AcceptedOptions.{AreArguments, command_line};
-ghost use Rattle.b2sum_commands.specs.CommandLineViews.{choice_of, next_of, read_words_of, StopsBy};
-ghost use Rattle.b2sum_commands.specs.CommandLineViews.{IsWrong};
+ghost use Rattle.b2sum_commands.specs.CommandLine.{has_folders_to_print, read_expected_word};
+ghost use Rattle.b2sum_commands.specs.CommandLine.{reading};
+ghost use Rattle.b2sum_commands.specs.AcceptedOptions.{ArgumentsMatchWords, parsed_command_line};
+ghost use Rattle.b2sum_commands.specs.CommandLineViews.{
+  choice_of_reader,
+  next_of,
+  state_of_reader,
+  StopMatchesResult,
+};
+ghost use Rattle.b2sum_commands.specs.CommandLineViews.{StopsSinceNoValue};
 ghost use Rattle.b2sum_commands.specs.declared.options.Stop.TheVariants.{NoMemory};
 ghost use Rattle.b2sum_commands.specs.declared.options.Next.TheVariants.{Any};
 
@@ -177,7 +188,7 @@ pub(crate) struct Reader {
 
 impl Reader {
     fn new(alloc: Global) -> Reader
-        ensures { choice_of result ≡ no_choice }
+        ensures { choice_of_reader result ≡ default_choice }
     {
         Reader {
             algorithm: Algorithm::Blake2b,
@@ -224,12 +235,13 @@ enum Next {
 }
 
 /// Reads the arguments, which come without the program's name. The result is what the command line
-/// means as `command_line` of `specs/AcceptedOptions.antt` defines it: options and files, or why
-/// there are none. The error is `Stop::NoMemory` if an allocation failed.
+/// means as `parsed_command_line` of `specs/AcceptedOptions.antt` defines it: options and files, or
+/// why there are none. The error is `Stop::NoMemory` if an allocation failed.
 pub(crate) fn read_arguments(alloc: Global, words: &[Vec<u8>]) -> Result<Arguments, Stop>
     ensures size { IfOk result (λ a. a.options.bytes ≤ 64) }
-    ensures arguments { IfOk result (AreArguments (map (λ word. word.items) words.now)) }
-    ensures stop { IfErr result (StopsBy (command_line (map (λ word. word.items) words.now))) }
+    ensures arguments { IfOk result (ArgumentsMatchWords (map (λ word. word.items) words.now)) }
+    ensures stop { IfErr result
+        (StopMatchesResult (parsed_command_line (map (λ word. word.items) words.now))) }
 {
     let (reader, files) = read_words(alloc, words)?;
     finish(alloc, reader, files)
@@ -238,8 +250,8 @@ pub(crate) fn read_arguments(alloc: Global, words: &[Vec<u8>]) -> Result<Argumen
 // Reads the words. Returns the options and the files.
 fn read_words(alloc: Global, words: &[Vec<u8>]) -> Result<(Reader, Vec<Vec<u8>>), Stop>
     ensures read { IfOk result (λ read. reading (map (λ word. word.items) words.now)
-        ≡ Ok (choice_of read.0, map (λ name. name.items) read.1.items)) }
-    ensures stop { IfErr result (StopsBy (reading (map (λ word. word.items) words.now))) }
+        ≡ Ok (choice_of_reader read.0, map (λ name. name.items) read.1.items)) }
+    ensures stop { IfErr result (StopMatchesResult (reading (map (λ word. word.items) words.now))) }
 {
     let mut reader = Reader::new(alloc);
     let mut files = Vec::new(alloc);
@@ -250,15 +262,15 @@ fn read_words(alloc: Global, words: &[Vec<u8>]) -> Result<(Reader, Vec<Vec<u8>>)
     if let Next::Awaited(flag, letter) = next {
         return Err(Stop::Usage(missing_value(alloc, flag, letter)?));
     }
-    if files.is_empty() && !names_files(&reader) {
+    if files.is_empty() && !has_folders_to_print(&reader) {
         push_copy(alloc, &mut files, b"-")?;
     }
     Ok((reader, files))
 }
 
 // Returns whether the options name files: those of folders, whose lines are printed.
-fn names_files(reader: &Reader) -> bool
-    ensures { result ≡ names_files (choice_of reader.now) }
+fn has_folders_to_print(reader: &Reader) -> bool
+    ensures { result ≡ has_folders_to_print (choice_of_reader reader.now) }
 {
     !reader.folders.is_empty() && !reader.checks
 }
@@ -280,11 +292,11 @@ fn read_word(
     word: &[u8],
 ) -> Result<Next, Stop>
     ensures read { IfOk result (λ after.
-        read_next (next_of next)
-        (read_words_of reader.old (map (λ f. f.items) files.old.items) next)
-        word.now ≡ Ok (read_words_of reader.new (map (λ f. f.items) files.new.items) after)) }
-    ensures stop { IfErr result (StopsBy (read_next (next_of next)
-        (read_words_of reader.old (map (λ f. f.items) files.old.items) next) word.now)) }
+        read_expected_word (next_of next)
+        (state_of_reader reader.old (map (λ f. f.items) files.old.items) next)
+        word.now ≡ Ok (state_of_reader reader.new (map (λ f. f.items) files.new.items) after)) }
+    ensures stop { IfErr result (StopMatchesResult (read_expected_word (next_of next)
+        (state_of_reader reader.old (map (λ f. f.items) files.old.items) next) word.now)) }
 {
     match next {
         Next::Any => read_option_or_file(alloc, reader, files, word),
@@ -307,31 +319,32 @@ fn read_option_or_file(
     word: &[u8],
 ) -> Result<Next, Stop>
     ensures read { IfOk result (λ after.
-        read_option_or_file (read_words_of reader.old (map (λ f. f.items) files.old.items) Any)
+        read_option_or_file (state_of_reader reader.old (map (λ f. f.items) files.old.items) Any)
         word.now
-        ≡ Ok (read_words_of reader.new (map (λ f. f.items) files.new.items) after)) }
-    ensures stop { IfErr result (StopsBy
-        (read_option_or_file (read_words_of reader.old (map (λ f. f.items) files.old.items) Any)
+        ≡ Ok (state_of_reader reader.new (map (λ f. f.items) files.new.items) after)) }
+    ensures stop { IfErr result (StopMatchesResult
+        (read_option_or_file (state_of_reader reader.old (map (λ f. f.items) files.old.items) Any)
         word.now)) }
 {
     if word == b"--".as_slice() {
         return Ok(Next::File);
     }
     if word.starts_with(b"--".as_slice()) {
-        return read_long(alloc, reader, &word[2..]);
+        return read_long_option(alloc, reader, &word[2..]);
     }
     if word.starts_with(b"-".as_slice()) && word != b"-".as_slice() {
-        return read_short(alloc, reader, &word[1..]);
+        return read_short_options(alloc, reader, &word[1..]);
     }
     push_copy(alloc, files, word)?;
     Ok(Next::Any)
 }
 
 // Reads the letters of a word of short options. Returns what the next word is.
-fn read_short(alloc: Global, reader: &mut Reader, letters: &[u8]) -> Result<Next, Stop>
-    ensures read { IfOk result (λ next. read_letters (choice_of reader.old) letters.now
-        ≡ Ok (choice_of reader.new, next_of next)) }
-    ensures stop { IfErr result (StopsBy (read_letters (choice_of reader.old) letters.now)) }
+fn read_short_options(alloc: Global, reader: &mut Reader, letters: &[u8]) -> Result<Next, Stop>
+    ensures read { IfOk result (λ next. read_letters (choice_of_reader reader.old) letters.now
+        ≡ Ok (choice_of_reader reader.new, next_of next)) }
+    ensures stop { IfErr result
+        (StopMatchesResult (read_letters (choice_of_reader reader.old) letters.now)) }
 {
     for (i, letter) in letters.iter().enumerate() {
         let Some(flag) = Flag::from_letter(*letter) else {
@@ -354,9 +367,12 @@ fn take_rest(
     letter: u8,
     rest: &[u8],
 ) -> Result<Next, Stop>
-    ensures read { IfOk result (λ next. value_or_next (choice_of reader.old) flag rest.now
-        ≡ Ok (choice_of reader.new, next_of next)) }
-    ensures stop { IfErr result (StopsBy (value_or_next (choice_of reader.old) flag rest.now)) }
+    ensures read { IfOk result
+        (λ next. value_here_or_next_word (choice_of_reader reader.old) flag rest.now
+        ≡ Ok (choice_of_reader reader.new, next_of next)) }
+    ensures stop { IfErr result
+        (StopMatchesResult
+        (value_here_or_next_word (choice_of_reader reader.old) flag rest.now)) }
 {
     if rest.is_empty() {
         return Ok(Next::Awaited(flag, Some(letter)));
@@ -369,7 +385,7 @@ fn take_rest(
 // with it.
 fn long_flag(alloc: Global, name: &[u8], word: &[u8]) -> Result<Flag, Stop>
     ensures flag { IfOk result (λ flag. flag_named name.now ≡ Some flag) }
-    ensures stop { IfErr result (IsWrong (flag_named name.now)) }
+    ensures stop { IfErr result (StopsSinceNoValue (flag_named name.now)) }
 {
     if let Some(flag) = exact_flag(name) {
         return Ok(flag);
@@ -403,28 +419,31 @@ fn ambiguous(alloc: Global, name: &[u8], word: &[u8]) -> Result<Vec<u8>, AllocEr
 }
 
 // Reads the rest of a word that two hyphens begin. Returns what the next word is.
-fn read_long(alloc: Global, reader: &mut Reader, word: &[u8]) -> Result<Next, Stop>
-    ensures read { IfOk result (λ next. read_long (choice_of reader.old) word.now
-        ≡ Ok (choice_of reader.new, next_of next)) }
-    ensures stop { IfErr result (StopsBy (read_long (choice_of reader.old) word.now)) }
+fn read_long_option(alloc: Global, reader: &mut Reader, word: &[u8]) -> Result<Next, Stop>
+    ensures read { IfOk result (λ next. read_long_option (choice_of_reader reader.old) word.now
+        ≡ Ok (choice_of_reader reader.new, next_of next)) }
+    ensures stop { IfErr result
+        (StopMatchesResult (read_long_option (choice_of_reader reader.old) word.now)) }
 {
     match split_once(word, b'=') {
         None => {
             let flag = long_flag(alloc, word, word)?;
-            read_switch(reader, flag)
+            read_unjoined_option(reader, flag)
         }
         Some((name, value)) => {
             let flag = long_flag(alloc, name, word)?;
-            read_option_with_value(alloc, reader, flag, value)
+            read_joined_option(alloc, reader, flag, value)
         }
     }
 }
 
 // Takes a long option without a value in its word. Returns what the next word is.
-fn read_switch(reader: &mut Reader, flag: Flag) -> Result<Next, Stop>
-    ensures read { IfOk result (λ next. read_switch (choice_of reader.old) (Some flag)
-        ≡ Ok (choice_of reader.new, next_of next)) }
-    ensures stop { IfErr result (StopsBy (read_switch (choice_of reader.old) (Some flag))) }
+fn read_unjoined_option(reader: &mut Reader, flag: Flag) -> Result<Next, Stop>
+    ensures read { IfOk result
+        (λ next. read_unjoined_option (choice_of_reader reader.old) (Some flag)
+        ≡ Ok (choice_of_reader reader.new, next_of next)) }
+    ensures stop { IfErr result
+        (StopMatchesResult (read_unjoined_option (choice_of_reader reader.old) (Some flag))) }
 {
     if flag.has_value() {
         return Ok(Next::Awaited(flag, None));
@@ -434,17 +453,18 @@ fn read_switch(reader: &mut Reader, flag: Flag) -> Result<Next, Stop>
 }
 
 // Takes a long option with a value in its word. Returns what the next word is.
-fn read_option_with_value(
+fn read_joined_option(
     alloc: Global,
     reader: &mut Reader,
     flag: Flag,
     value: &[u8],
 ) -> Result<Next, Stop>
     ensures read { IfOk result (λ next.
-        read_option_with_value (choice_of reader.old) (Some flag) value.now
-        ≡ Ok (choice_of reader.new, next_of next)) }
+        read_joined_option (choice_of_reader reader.old) (Some flag) value.now
+        ≡ Ok (choice_of_reader reader.new, next_of next)) }
     ensures stop { IfErr result
-        (StopsBy (read_option_with_value (choice_of reader.old) (Some flag) value.now)) }
+        (StopMatchesResult
+        (read_joined_option (choice_of_reader reader.old) (Some flag) value.now)) }
 {
     if !flag.has_value() {
         let text = b"' doesn't allow an argument";
@@ -457,8 +477,8 @@ fn read_option_with_value(
 // Takes an option that has no value.
 fn take_flag(reader: &mut Reader, flag: Flag) -> Result<(), Stop>
     ensures taken { OnOk result
-        (set_flag flag (choice_of reader.old) ≡ Ok (choice_of reader.new)) }
-    ensures stop { IfErr result (StopsBy (set_flag flag (choice_of reader.old))) }
+        (set_flag flag (choice_of_reader reader.old) ≡ Ok (choice_of_reader reader.new)) }
+    ensures stop { IfErr result (StopMatchesResult (set_flag flag (choice_of_reader reader.old))) }
 {
     match flag {
         Flag::Check => reader.checks = true,
@@ -497,8 +517,10 @@ const PERSONAL: &[u8] = b"invalid personalization: ";
 // Takes an option and its value.
 fn take_value(alloc: Global, reader: &mut Reader, flag: Flag, value: &[u8]) -> Result<(), Stop>
     ensures taken { OnOk result
-        (set_value flag value.now (choice_of reader.old) ≡ Ok (choice_of reader.new)) }
-    ensures stop { IfErr result (StopsBy (set_value flag value.now (choice_of reader.old))) }
+        (set_value flag value.now (choice_of_reader reader.old)
+        ≡ Ok (choice_of_reader reader.new)) }
+    ensures stop { IfErr result
+        (StopMatchesResult (set_value flag value.now (choice_of_reader reader.old))) }
 {
     match flag {
         Flag::Algorithm => {

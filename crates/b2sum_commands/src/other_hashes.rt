@@ -1,12 +1,12 @@
 //! Lines of other hash functions.
 
 ghost use Rattle.std.specs.Prelude.{◌≡◌};
-ghost use Rattle.b2sum_commands.specs.OtherHashes.{is_foreign};
+ghost use Rattle.b2sum_commands.specs.OtherHashes.{is_line_of_other_hash};
 
 /// Returns whether the line is one of another hash function: it begins as a tagged line of that
 /// does.
-pub(crate) fn is_foreign(line: &[u8]) -> bool
-    ensures { result ≡ is_foreign line.now }
+pub(crate) fn is_line_of_other_hash(line: &[u8]) -> bool
+    ensures { result ≡ is_line_of_other_hash line.now }
 {
     line.starts_with(b"MD5 (".as_slice())
         || line.starts_with(b"SHA1 (".as_slice())

@@ -5,16 +5,22 @@ ghost use Rattle.std.specs.Prelude.{IsErrOf, IsOkUnless, OnOk, Bool, Option, tru
 ghost use Rattle.std.specs.Option.{option_map};
 ghost use Rattle.std.specs.Result.{result_ok};
 ghost use Rattle.b2sum_commands.specs.CommandLine.{Choice, Refused};
-ghost use Rattle.b2sum_commands.specs.AcceptedOptions.{AreOptions, command_line};
-ghost use Rattle.b2sum_commands.specs.World.{world_of, IsEnded, OnlyTells};
-ghost use Rattle.b2sum_commands.specs.ProgramRuns.{AreDone, ArePrintedBelow, DoesChoice, DoesLine};
-ghost use Rattle.b2sum_commands.specs.ProgramRuns.{HasReadKey, key_from, key_most};
-ghost use Rattle.b2sum_commands.specs.ProgramRuns.{WarnsOfDigits};
-ghost use Rattle.b2sum_commands.specs.ProgramRuns.{IsKeyless, TellsRefusal};
-ghost use Rattle.b2sum_commands.specs.ProgramRuns.{RunsLine, help_of, status_of};
-ghost use Rattle.b2sum_commands.specs.ProgramRuns.{WarnsOfMacs, are_short_macs};
+ghost use Rattle.b2sum_commands.specs.AcceptedOptions.{OptionsMatchChoice, parsed_command_line};
+ghost use Rattle.b2sum_commands.specs.World.{world_of, RunEndsWithError, OnlyTells};
+ghost use Rattle.b2sum_commands.specs.ProgramRuns.{
+  FilesAreCheckedOrPrinted,
+  FolderFilesArePrinted,
+  DoesTaskOrNotBegun,
+  DoesCommandLine,
+};
+ghost use Rattle.b2sum_commands.specs.ProgramRuns.{ChosenKeyIsRead, derived_or_same_key};
+ghost use Rattle.b2sum_commands.specs.ProgramRuns.{max_key_bytes};
+ghost use Rattle.b2sum_commands.specs.ProgramRuns.{WarnsIfKeyIsDigits};
+ghost use Rattle.b2sum_commands.specs.ProgramRuns.{KeyFileIsRefused, TellsUsageError};
+ghost use Rattle.b2sum_commands.specs.ProgramRuns.{RunsCommandLine, help_text, exit_status};
+ghost use Rattle.b2sum_commands.specs.ProgramRuns.{WarnsIfShortMacs, are_short_macs};
 ghost use Rattle.b2sum_lines.specs.ManifestLines.{max_bytes};
-ghost use Rattle.b2sum_commands.specs.CommandLineViews.{IsPrinted};
+ghost use Rattle.b2sum_commands.specs.CommandLineViews.{StopIsPrinted};
 
 use crate::check::check_manifests;
 use crate::devices::{Disk, Fault, OpenFile, Output, put};
@@ -96,15 +102,15 @@ pub fn run<H: Hashes, D: Disk, K: Output, E: Sink>(
     words: &[Vec<u8>],
 ) -> u8
     ensures status { result ≤ 1 }
-    ensures line { (end : Option Bool) × (result ≡ status_of end) × RunsLine
+    ensures line { (end : Option Bool) × (result ≡ exit_status end) × RunsCommandLine
         (world_of host.now.program.name.items D.File.named D.File.failed D.File.failure
         (D.files host.now.disk) H.hashing)
-        (help_of host.now.program.name.items HELP.now) VERSION.now
-        (command_line (map (λ word. word.items) words.now)) session.old session.new end }
-    ensures refused { command_line (map (λ word. word.items) words.now) ≡ Err Refused
-        → (result ≡ 1) × (session.new.held ≡ session.old.held) × (TellsRefusal
+        (help_text host.now.program.name.items HELP.now) VERSION.now
+        (parsed_command_line (map (λ word. word.items) words.now)) session.old session.new end }
+    ensures refused { parsed_command_line (map (λ word. word.items) words.now) ≡ Err Refused
+        → (result ≡ 1) × (session.new.held ≡ session.old.held) × (TellsUsageError
         (world_of host.now.program.name.items D.File.named D.File.failed D.File.failure
-        (D.files host.now.disk) H.hashing) session.old session.new ⊎ IsEnded
+        (D.files host.now.disk) H.hashing) session.old session.new ⊎ RunEndsWithError
         (world_of host.now.program.name.items D.File.named D.File.failed D.File.failure
         (D.files host.now.disk) H.hashing) session.old session.new) }
 {
@@ -128,11 +134,11 @@ fn run_words<H: Hashes, D: Disk, K: Output, E: Sink>(
     session: &mut Session<D::File, K, E>,
     words: &[Vec<u8>],
 ) -> Result<bool, Fault>
-    ensures line { DoesLine
+    ensures line { DoesCommandLine
         (world_of host.now.program.name.items D.File.named D.File.failed D.File.failure
         (D.files host.now.disk) H.hashing)
-        (help_of host.now.program.name.items HELP.now) VERSION.now
-        (command_line (map (λ word. word.items) words.now)) session.old session.new
+        (help_text host.now.program.name.items HELP.now) VERSION.now
+        (parsed_command_line (map (λ word. word.items) words.now)) session.old session.new
         (result_ok result) }
     ensures write { IsErrOf result Fault.WriteFailed → session.new.output_failed ≡ true }
 {
@@ -149,10 +155,10 @@ fn print_stop<H: Hashes, D: Disk, K: Output, E: Sink>(
     session: &mut Session<D::File, K, E>,
     stop: Stop,
 ) -> Result<bool, Fault>
-    ensures printed { IsPrinted
+    ensures printed { StopIsPrinted
         (world_of host.now.program.name.items D.File.named D.File.failed D.File.failure
         (D.files host.now.disk) H.hashing)
-        (help_of host.now.program.name.items HELP.now) VERSION.now session.old session.new stop
+        (help_text host.now.program.name.items HELP.now) VERSION.now session.old session.new stop
         (result_ok result) }
     ensures write { IsErrOf result Fault.WriteFailed → session.new.output_failed ≡ true }
 {
@@ -187,9 +193,10 @@ fn run_task<H: Hashes, D: Disk, K: Output, E: Sink>(
     arguments: Arguments,
 ) -> Result<bool, Fault>
     requires { arguments.options.bytes ≤ 64 }
-    ensures choice { (c : Choice) → AreOptions c arguments.options
+    ensures choice { (c : Choice) → OptionsMatchChoice c arguments.options
         → option_map (λ name. name.items) arguments.key_file ≡ c.key_file
-        → DoesChoice (world_of host.now.program.name.items D.File.named D.File.failed D.File.failure
+        → DoesTaskOrNotBegun
+        (world_of host.now.program.name.items D.File.named D.File.failed D.File.failure
         (D.files host.now.disk) H.hashing) c
         (map (λ name. name.items) arguments.files.items) session.old session.new
         (result_ok result) }
@@ -219,7 +226,7 @@ fn do_task<H: Hashes, D: Disk, K: Output, E: Sink>(
     files: Vec<Vec<u8>>,
 ) -> Result<bool, Fault>
     requires { options.now.bytes ≤ 64 }
-    ensures done { AreDone options.now.checks
+    ensures done { FilesAreCheckedOrPrinted options.now.checks
         (world_of host.now.program.name.items D.File.named D.File.failed D.File.failure
         (D.files host.now.disk) H.hashing) options.now
         (map (λ name. name.items) files.items) session.old session.new (result_ok result) }
@@ -243,7 +250,7 @@ fn print_with_folders<H: Hashes, D: Disk, K: Output, E: Sink>(
     files: Vec<Vec<u8>>,
 ) -> Result<bool, Fault>
     requires { options.now.bytes ≤ 64 }
-    ensures printed { ArePrintedBelow
+    ensures printed { FolderFilesArePrinted
         (world_of host.now.program.name.items D.File.named D.File.failed D.File.failure
         (D.files host.now.disk) H.hashing) options.now
         (map (λ folder. folder.items) options.now.folders.items)
@@ -268,7 +275,7 @@ fn warn_if_short<F: OpenFile, K: Output, E: Sink>(
     options: &Options,
     session: &mut Session<F, K, E>,
 )
-    ensures { WarnsOfMacs (are_short_macs options.now) program.now.name.items session.old
+    ensures { WarnsIfShortMacs (are_short_macs options.now) program.now.name.items session.old
         session.new }
 {
     if options.needs.key && options.bytes < MAC_BYTES {
@@ -284,21 +291,21 @@ fn with_key<H: Hashes, D: Disk, K: Output, E: Sink>(
     mut options: Options,
     key_file: Option<Vec<u8>>,
 ) -> Result<Option<Options>, Fault>
-    ensures options { (c : Choice) → AreOptions c options
+    ensures options { (c : Choice) → OptionsMatchChoice c options
         → option_map (λ name. name.items) key_file ≡ c.key_file
-        → IfOk result (λ found. IfSome found (AreOptions c)) }
-    ensures keyed { (c : Choice) → AreOptions c options
+        → IfOk result (λ found. IfSome found (OptionsMatchChoice c)) }
+    ensures keyed { (c : Choice) → OptionsMatchChoice c options
         → option_map (λ name. name.items) key_file ≡ c.key_file
-        → IfOk result (λ found. IfSome found (λ o. HasReadKey
+        → IfOk result (λ found. IfSome found (λ o. ChosenKeyIsRead
         (world_of host.now.program.name.items D.File.named D.File.failed D.File.failure
         (D.files host.now.disk) H.hashing) c o session.old session.new)) }
     ensures bytes { IfOk result (λ found. IfSome found (λ o. o.bytes ≡ options.bytes)) }
     ensures held { session.new.held ≡ session.old.held }
-    ensures keyless { IfOk result (λ found. found ≡ None → IsKeyless
+    ensures keyless { IfOk result (λ found. found ≡ None → KeyFileIsRefused
         (world_of host.now.program.name.items D.File.named D.File.failed D.File.failure
         (D.files host.now.disk) H.hashing)
         (option_map (λ name. name.items) key_file) options.key_is_hex
-        (key_most options) session.old session.new) }
+        (max_key_bytes options) session.old session.new) }
     ensures memory { IsOkUnless result Fault.NoMemory }
 {
     let Some(name) = key_file else {
@@ -306,7 +313,7 @@ fn with_key<H: Hashes, D: Disk, K: Output, E: Sink>(
     };
     let form = Form {
         is_hex: options.key_is_hex,
-        most: key_most(&options),
+        most: max_key_bytes(&options),
     };
     let is_hidden = host.disk.hide_memory();
     let key = read_key(host, session, name.as_slice(), form, is_hidden)?;
@@ -321,13 +328,13 @@ fn with_key<H: Hashes, D: Disk, K: Output, E: Sink>(
         name.as_slice(),
         key.as_slice(),
     )?;
-    options.key = key_from(host.program.alloc, &host.hashes, &options, key)?;
+    options.key = derived_or_same_key(host.program.alloc, &host.hashes, &options, key)?;
     Ok(Some(options))
 }
 
 // Returns the most bytes of the key of a key file.
-fn key_most(options: &Options) -> usize
-    ensures is { result ≡ key_most options.now }
+fn max_key_bytes(options: &Options) -> usize
+    ensures is { result ≡ max_key_bytes options.now }
     ensures most { result ≤ 64 }
 {
     if options.context.is_some() {
@@ -345,7 +352,8 @@ fn warn_if_digits<F: OpenFile, K: Output, E: Sink>(
     name: &[u8],
     key: &[u8],
 ) -> Result<(), AllocError>
-    ensures told { OnOk result (WarnsOfDigits program.now.name.items (Some name.now) form.is_hex
+    ensures told { OnOk result
+        (WarnsIfKeyIsDigits program.now.name.items (Some name.now) form.is_hex
         key.now session.old session.new) }
     ensures only { OnlyTells session.old session.new }
 {
@@ -356,7 +364,7 @@ fn warn_if_digits<F: OpenFile, K: Output, E: Sink>(
 }
 
 // Returns the key of the digests, from that of a key file.
-fn key_from<H: Hashes>(
+fn derived_or_same_key<H: Hashes>(
     alloc: Global,
     hashes: &H,
     options: &Options,
@@ -364,7 +372,7 @@ fn key_from<H: Hashes>(
 ) -> Result<Vec<u8>, AllocError>
     requires some { 1 ≤ length key.items }
     requires fits { length key.items ≤ 64 }
-    ensures { IfOk result (λ found. found.items ≡ key_from H.hashing
+    ensures { IfOk result (λ found. found.items ≡ derived_or_same_key H.hashing
         (option_map (λ text. text.items) options.now.context) (max_bytes options.now.algorithm)
         key.items) }
 {

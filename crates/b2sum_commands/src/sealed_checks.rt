@@ -7,13 +7,19 @@ ghost use Rattle.std.specs.Result.{result_ok};
 ghost use Rattle.std.specs.declared.io.Error.{Error};
 ghost use Rattle.text_lines.specs.Cuts.{lines_of};
 ghost use Rattle.b2sum_commands.specs.declared.check.Verdict as verdict;
-ghost use Rattle.b2sum_commands.specs.ManifestChecks.{IsText};
-ghost use Rattle.b2sum_commands.specs.Manifests.{BeginsLine, IsLine};
+ghost use Rattle.b2sum_commands.specs.ManifestChecks.{IsWholeText};
+ghost use Rattle.b2sum_commands.specs.Manifests.{StopsInLine, LineIsChecked};
 ghost use Rattle.b2sum_commands.specs.Messages.{Cannot, is_standard_input, message};
-ghost use Rattle.b2sum_commands.specs.Reports.{AreCounted};
-ghost use Rattle.b2sum_commands.specs.LongLists.{IsOverlong, long_reason};
-ghost use Rattle.b2sum_commands.specs.SealedLists.{IsCheckedAs, IsUnlisted};
-ghost use Rattle.b2sum_commands.specs.World.{HasError, InTurn, IsStopped, IsWritten, world_of};
+ghost use Rattle.b2sum_commands.specs.Reports.{CountsMatchVerdicts};
+ghost use Rattle.b2sum_commands.specs.LongLists.{HasMoreBytesThan, list_too_long_reason};
+ghost use Rattle.b2sum_commands.specs.SealedLists.{ListOrManifestIsChecked, ListIsNotRead};
+ghost use Rattle.b2sum_commands.specs.World.{
+  OpenFileHasError,
+  AreDoneInTurn,
+  IsStoppedInTurn,
+  SinkAcceptsOrFails,
+  world_of,
+};
 
 use crate::ahead::Ahead;
 use crate::check::{Counts, check_line, end_manifest};
@@ -46,7 +52,7 @@ pub(crate) fn check_sealed<H: Hashes, D: Disk, K: Output, E: Sink>(
     session: &mut Session<D::File, K, E>,
     name: &[u8],
 ) -> Result<bool, Fault>
-    ensures checked { IsCheckedAs true
+    ensures checked { ListOrManifestIsChecked true
         (world_of host.now.program.name.items D.File.named D.File.failed D.File.failure
         (D.files host.now.disk) H.hashing)
         options.now name.now session.old session.new (result_ok result) }
@@ -81,10 +87,10 @@ fn read_list<H: Hashes, D: Disk, K: Output, E: Sink>(
 ) -> Result<Option<Vec<u8>>, Fault>
     ensures text { IfOk result (λ found. IfSome found (λ list. (left : Option (List ℕ))
         × (session.new ≡ record session.old { left = left })
-        × IsText (is_standard_input name.now) ((D.files host.now.disk).holds name.now)
+        × IsWholeText (is_standard_input name.now) ((D.files host.now.disk).holds name.now)
         session.old.left left list.items
         × (length list.items ≤ most))) }
-    ensures unlisted { IfOk result (λ found. found ≡ None → IsUnlisted
+    ensures unlisted { IfOk result (λ found. found ≡ None → ListIsNotRead
         (world_of host.now.program.name.items D.File.named D.File.failed D.File.failure
         (D.files host.now.disk) H.hashing) name.now most session.old session.new) }
     ensures held { session.new.held ≡ session.old.held }
@@ -118,10 +124,10 @@ pub(crate) fn read_list_from<H, D: Disk, E: Sink>(
     ensures kept { IfOk result (λ found. IfSome found (λ _. messages.new ≡ messages.old)) }
     ensures name { D.File.named file.new ≡ name.now }
     ensures told { IfOk result (λ found. found ≡ None → (reason : List ℕ)
-        × (((e : Error) × HasError D.File.named D.File.failed D.File.failure name.now e
+        × (((e : Error) × OpenFileHasError D.File.named D.File.failed D.File.failure name.now e
         × (D.files host.now.disk).describes e reason)
-        ⊎ (IsOverlong (D.File.left file.old) most × (reason ≡ long_reason)))
-        × IsWritten (E.failed messages.old) (E.failed messages.new) (E.held messages.old)
+        ⊎ (HasMoreBytesThan (D.File.left file.old) most × (reason ≡ list_too_long_reason)))
+        × SinkAcceptsOrFails (E.failed messages.old) (E.failed messages.new) (E.held messages.old)
         (E.held messages.new) (message host.now.program.name.items (Cannot name.now reason))) }
     ensures memory { IsOkUnless result Fault.NoMemory }
 {
@@ -188,13 +194,14 @@ fn check_text<H: Hashes, D: Disk, K: Output, E: Sink>(
     is_input: bool,
     text: &[u8],
 ) -> Result<Counts, Fault>
-    ensures lines { IfOk result (λ counts. (vs : List verdict.Verdict) × InTurn (IsLine
+    ensures lines { IfOk result
+        (λ counts. (vs : List verdict.Verdict) × AreDoneInTurn (LineIsChecked
         (world_of host.now.program.name.items D.File.named D.File.failed D.File.failure
         (D.files host.now.disk) H.hashing) options.now is_input)
-        (lines_of text.now) session.old session.new vs × AreCounted vs counts) }
-    ensures stopped { IsErr result → IsStopped (IsLine
+        (lines_of text.now) session.old session.new vs × CountsMatchVerdicts vs counts) }
+    ensures stopped { IsErr result → IsStoppedInTurn (LineIsChecked
         (world_of host.now.program.name.items D.File.named D.File.failed D.File.failure
-        (D.files host.now.disk) H.hashing) options.now is_input) (BeginsLine
+        (D.files host.now.disk) H.hashing) options.now is_input) (StopsInLine
         (world_of host.now.program.name.items D.File.named D.File.failed D.File.failure
         (D.files host.now.disk) H.hashing) options.now is_input)
         (lines_of text.now) session.old session.new }

@@ -3,8 +3,13 @@
 ghost use Rattle.std.specs.Prelude.{◌≡◌, ◌↔◌, ◌==◌, ◌≤◌, true, length, count_by, IfOk};
 ghost use Rattle.std.specs.Prelude.{IsErrOf, IsOkUnless, map};
 ghost use Rattle.std.specs.Result.{result_ok};
-ghost use Rattle.b2sum_commands.specs.SealedLists.{ArePrinted, IsSealed, line_count, seal_line};
-ghost use Rattle.b2sum_commands.specs.TextParts.{above_last};
+ghost use Rattle.b2sum_commands.specs.SealedLists.{
+  FilesArePrinted,
+  LastLineSealsText,
+  line_count,
+  seal_line,
+};
+ghost use Rattle.b2sum_commands.specs.TextParts.{above_last_line};
 ghost use Rattle.b2sum_commands.specs.World.{world_of};
 
 use crate::devices::{Disk, Fault, Output, put};
@@ -28,7 +33,7 @@ pub fn print_list<H: Hashes, D: Disk, K: Output, E: Sink>(
     names: &[Vec<u8>],
 ) -> Result<bool, Fault>
     requires { options.now.bytes ≤ 64 }
-    ensures lines { ArePrinted options.now.is_sealed
+    ensures lines { FilesArePrinted options.now.is_sealed
         (world_of host.now.program.name.items D.File.named D.File.failed D.File.failure
         (D.files host.now.disk) H.hashing) options.now
         (map (λ name. name.items) names.now) session.old session.new (result_ok result) }
@@ -83,17 +88,18 @@ pub(crate) fn is_sealed<H: Hashes>(
     options: &Options,
     text: &[u8],
 ) -> Result<bool, Fault>
-    ensures sealed { IfOk result (λ is. is ≡ true ↔ IsSealed H.hashing options.now text.now) }
+    ensures sealed { IfOk result
+        (λ is. is ≡ true ↔ LastLineSealsText H.hashing options.now text.now) }
     ensures memory { IsOkUnless result Fault.NoMemory }
 {
-    let list = above_last(text);
+    let list = above_last_line(text);
     let seal = seal_line(alloc, hashes, options, list)?;
     Ok(constant_time_eq(&text[list.len()..], seal.as_slice()))
 }
 
 // Returns what is above the last line of a text.
-fn above_last(text: &[u8]) -> &[u8]
-    ensures above { result.now ≡ above_last text.now }
+fn above_last_line(text: &[u8]) -> &[u8]
+    ensures above { result.now ≡ above_last_line text.now }
     ensures shorter { length result.now ≤ length text.now }
 {
     let size = text.len().saturating_sub(1);

@@ -1,7 +1,7 @@
 //! What a run works with.
 
 ghost use Rattle.std.specs.Prelude.{◌≡◌, ◌<◌, ◌≤◌, ◌^◌, ◌∷◌, [], length, IfOk, IsErr, OnOk};
-ghost use Rattle.b2sum_commands.specs.Manifests.{first_place};
+ghost use Rattle.b2sum_commands.specs.Manifests.{initial_place};
 ghost use Rattle.b2sum_commands.specs.ProgramName.{program_name};
 ghost use Rattle.b2sum_commands.specs.TextParts.{after_last};
 ghost use Rattle.b2sum_lines.specs.declared.entry.Spacing.TheVariants.{Open};
@@ -149,7 +149,7 @@ impl<F: OpenFile, K: Output, E: Sink> Session<F, K, E> {
         name: &[u8],
     ) -> Result<(), AllocError>
         ensures begun { OnOk result
-            (self.new ≡ record self.old { place = first_place options.now name.now }) }
+            (self.new ≡ record self.old { place = initial_place options.now name.now }) }
         ensures unbegun { IsErr result → self.new ≡ self.old }
     {
         let name = Vec::from_slice(alloc, name)?;

@@ -2,18 +2,29 @@
 
 ghost use Rattle.std.specs.Prelude.{◌++◌, ◌∷◌, []};
 ghost use Rattle.hex.specs.Hex.{encode_lower};
-ghost use Rattle.b2sum_commands.specs.PrintedSums.{printed, end_of};
+ghost use Rattle.b2sum_commands.specs.PrintedSums.{printed, line_terminator};
 ghost use Rattle.std.specs.Prelude.{◌≡◌, ◌≢◌, ℕ, ◌≤◌, List, length, map, take, true, false, IfOk};
 ghost use Rattle.std.specs.Prelude.{IsErrOf, IsOkUnless, IfErr, OnOk, OnErr, Some, ◌⊎◌, ◌<◌, ◌^◌};
 ghost use Rattle.std.specs.Io.KnownBytes.{Appends};
-ghost use Rattle.blake2_streams.specs.Streams.{GivesAll};
+ghost use Rattle.blake2_streams.specs.Streams.{ReturnsAllBytes};
 ghost use Rattle.std.specs.Result.{result_ok};
 ghost use Rattle.b2sum_commands.specs.declared.sums.Read.TheVariants.{Whole, Missing, Failed};
 ghost use Rattle.b2sum_commands.specs.Messages.{is_standard_input};
-ghost use Rattle.b2sum_commands.specs.ReadAhead.{AreFound};
-ghost use Rattle.b2sum_commands.specs.World.{world_of, AllInTurn, KeepsOutput, StopsIn};
-ghost use Rattle.b2sum_commands.specs.PrintedSums.{ReadsAs, LeavesInput, IsMissing, IsSum};
-ghost use Rattle.b2sum_commands.specs.PrintedSums.{ended_line, IsKept, TellsCause};
+ghost use Rattle.b2sum_commands.specs.ReadAhead.{AreDigestsOfFiles};
+ghost use Rattle.b2sum_commands.specs.World.{
+  world_of,
+  NamesAreDoneInTurn,
+  KeepsOutputAndPlace,
+  AcceptsNothingOrPart,
+};
+ghost use Rattle.b2sum_commands.specs.PrintedSums.{
+  SourceHasText,
+  KeepsInputUnlessRead,
+  FileIsMissing,
+  DigestLineIsPrinted,
+};
+ghost use Rattle.b2sum_commands.specs.PrintedSums.{terminated_line, ListKeepsPrinted};
+ghost use Rattle.b2sum_commands.specs.PrintedSums.{TellsWhyNoDigest};
 
 use crate::ahead::{Ahead, digest_ahead, go_on};
 use crate::devices::{Disk, Fault, OpenFile, Output, put};
@@ -49,20 +60,22 @@ pub(crate) fn digest_file<H: Hashes, D: Disk, K: Output, E: Sink>(
     function: Function,
     out: &mut [u8; 64],
 ) -> Result<Read, Fault>
-    requires { AreFound (D.files host.now.disk) H.hashing options.now ahead.now.found.items }
+    requires { AreDigestsOfFiles (D.files host.now.disk) H.hashing options.now
+        ahead.now.found.items }
     ensures whole { IfOk result (λ read. read ≡ Whole → (text : List ℕ)
-        × ReadsAs (is_standard_input name.now) ((D.files host.now.disk).holds name.now)
+        × SourceHasText (is_standard_input name.now) ((D.files host.now.disk).holds name.now)
         session.old.left session.new.left text
         × (take function.bytes out.new ≡ H.hashing.digest options.now function text)) }
     ensures missing { IfOk result (λ read. read ≡ Missing → (options.now.ignores_missing ≡ true)
-        × (is_standard_input name.now ≡ false) × IsMissing (D.files host.now.disk) name.now) }
-    ensures told { IfOk result (λ read. read ≡ Failed → TellsCause
+        × (is_standard_input name.now ≡ false) × FileIsMissing (D.files host.now.disk) name.now) }
+    ensures told { IfOk result (λ read. read ≡ Failed → TellsWhyNoDigest
         (world_of host.now.program.name.items D.File.named D.File.failed D.File.failure
         (D.files host.now.disk) H.hashing)
         options.now function name.now session.old session.new) }
     ensures silent { IfOk result (λ read. read ≢ Failed → session.new.told ≡ session.old.told) }
-    ensures leaves { LeavesInput (is_standard_input name.now) session.old.left session.new.left }
-    ensures output { KeepsOutput session.old session.new }
+    ensures leaves { KeepsInputUnlessRead (is_standard_input name.now) session.old.left
+        session.new.left }
+    ensures output { KeepsOutputAndPlace session.old session.new }
     ensures memory { IsOkUnless result Fault.NoMemory }
 {
     let hashes = &host.hashes;
@@ -110,7 +123,7 @@ fn digest_open<H: Hashes, F: OpenFile>(
     requires room { 0 < length buffer.old }
     requires most { length buffer.old ≤ 2 ^ 24 }
     ensures whole { OnOk result ((text : List ℕ)
-        × GivesAll (F.left source.old) (F.left source.new) text
+        × ReturnsAllBytes (F.left source.old) (F.left source.new) text
         × (take function.bytes out.new ≡ H.hashing.digest options.now function text)) }
     ensures error { IfErr result (λ e. ((F.failed source.new ≡ true)
         × (F.failure source.new ≡ Some e))
@@ -140,7 +153,7 @@ pub fn print_sums<H: Hashes, D: Disk, K: Output, E: Sink>(
     names: &[Vec<u8>],
 ) -> Result<bool, Fault>
     requires { options.now.bytes ≤ 64 }
-    ensures lines { AllInTurn (IsSum
+    ensures lines { NamesAreDoneInTurn (DigestLineIsPrinted
         (world_of host.now.program.name.items D.File.named D.File.failed D.File.failure
         (D.files host.now.disk) H.hashing) options.now)
         (map (λ name. name.items) names.now) session.old session.new (result_ok result) }
@@ -160,11 +173,12 @@ pub(crate) fn print_lines<H: Hashes, D: Disk, K: Output, E: Sink>(
     list: &mut Vec<u8>,
 ) -> Result<bool, Fault>
     requires { options.now.bytes ≤ 64 }
-    ensures lines { AllInTurn (IsSum
+    ensures lines { NamesAreDoneInTurn (DigestLineIsPrinted
         (world_of host.now.program.name.items D.File.named D.File.failed D.File.failure
         (D.files host.now.disk) H.hashing) options.now)
         (map (λ name. name.items) names.now) session.old session.new (result_ok result) }
-    ensures kept { IfOk result (λ _. IsKept options.now.is_sealed session.old.held session.new.held
+    ensures kept { IfOk result
+        (λ _. ListKeepsPrinted options.now.is_sealed session.old.held session.new.held
         list.old.items list.new.items) }
     ensures write { IsErrOf result Fault.WriteFailed → session.new.output_failed ≡ true }
 {
@@ -189,12 +203,14 @@ fn print_sum<H: Hashes, D: Disk, K: Output, E: Sink>(
     list: &mut Vec<u8>,
 ) -> Result<bool, Fault>
     requires bytes { options.now.bytes ≤ 64 }
-    requires ahead { AreFound (D.files host.now.disk) H.hashing options.now ahead.now.found.items }
-    ensures line { IsSum
+    requires ahead { AreDigestsOfFiles (D.files host.now.disk) H.hashing options.now
+        ahead.now.found.items }
+    ensures line { DigestLineIsPrinted
         (world_of host.now.program.name.items D.File.named D.File.failed D.File.failure
         (D.files host.now.disk) H.hashing)
         options.now name.now session.old session.new (result_ok result) }
-    ensures kept { IfOk result (λ _. IsKept options.now.is_sealed session.old.held session.new.held
+    ensures kept { IfOk result
+        (λ _. ListKeepsPrinted options.now.is_sealed session.old.held session.new.held
         list.old.items list.new.items) }
     ensures write { IsErrOf result Fault.WriteFailed → session.new.output_failed ≡ true }
 {
@@ -222,8 +238,9 @@ fn put_line<K: Sink>(
     line: &[u8],
 ) -> Result<(), Fault>
     ensures whole { OnOk result (Appends (K.held output.old) (K.held output.new) line.now) }
-    ensures part { OnErr result (StopsIn (K.held output.old) (K.held output.new) line.now) }
-    ensures kept { OnOk result (IsKept options.now.is_sealed (K.held output.old)
+    ensures part { OnErr result
+        (AcceptsNothingOrPart (K.held output.old) (K.held output.new) line.now) }
+    ensures kept { OnOk result (ListKeepsPrinted options.now.is_sealed (K.held output.old)
         (K.held output.new) list.old.items list.new.items) }
     ensures write { IsErrOf result Fault.WriteFailed → K.failed output.new ≡ true }
 {
@@ -256,7 +273,7 @@ fn printed(alloc: Global, options: &Options, digest: &[u8], name: &[u8]) -> Resu
 // Returns the digits of a digest, with the end of a line.
 fn digits_of(alloc: Global, options: &Options, digest: &[u8]) -> Result<Vec<u8>, Fault>
     ensures text { IfOk result (λ text. text.items
-        ≡ encode_lower digest.now ++ (end_of options.now.ends_zero ∷ [])) }
+        ≡ encode_lower digest.now ++ (line_terminator options.now.ends_zero ∷ [])) }
     ensures memory { IsOkUnless result Fault.NoMemory }
 {
     let mut text = copied(alloc, hex::encode(alloc, digest)?.as_bytes())?;
@@ -268,7 +285,7 @@ fn digits_of(alloc: Global, options: &Options, digest: &[u8]) -> Result<Vec<u8>,
 // Returns the line of a digest and a name, with its end.
 fn line_of(alloc: Global, options: &Options, digest: &[u8], name: &[u8]) -> Result<Vec<u8>, Fault>
     requires { length digest.now ≤ 64 }
-    ensures line { IfOk result (λ line. line.items ≡ ended_line options.now.ends_zero (record {
+    ensures line { IfOk result (λ line. line.items ≡ terminated_line options.now.ends_zero (record {
       algorithm = options.now.algorithm;
       digest = digest.now;
       name = name.now;

@@ -3,10 +3,24 @@
 ghost use Rattle.std.specs.Prelude.{◌≡◌, IfErr, IfOk, Some};
 ghost use Rattle.std.specs.List.{list_all};
 ghost use Rattle.std.specs.Result.{result_ok};
-ghost use Rattle.b2sum_commands.specs.CommandLine.{number_in, without_blanks, without_plus};
-ghost use Rattle.b2sum_commands.specs.CommandLine.{leaf_in, bits_in, bytes_in, algorithm_in};
-ghost use Rattle.b2sum_commands.specs.CommandLine.{digest_in, is_zero, text_in, threads_in};
-ghost use Rattle.b2sum_commands.specs.CommandLineViews.{IsRefusal, IsWrong};
+ghost use Rattle.b2sum_commands.specs.CommandLine.{
+  parsed_number,
+  without_leading_blanks,
+  without_leading_plus,
+};
+ghost use Rattle.b2sum_commands.specs.CommandLine.{
+  parsed_leaf_length,
+  parsed_bit_length,
+  nonzero_bytes_of_hex,
+  algorithm_of_name,
+};
+ghost use Rattle.b2sum_commands.specs.CommandLine.{
+  digest_of_hex_value,
+  is_zero,
+  nonempty_text,
+  parsed_thread_count,
+};
+ghost use Rattle.b2sum_commands.specs.CommandLineViews.{IsRefusalOrNoMemory, StopsSinceNoValue};
 
 use crate::digest::ExpectedDigest;
 use crate::options::{Stop, joined};
@@ -17,7 +31,7 @@ use std::alloc::Global;
 
 // Returns the stop of a wrong value: this line and the value, and a line that says why.
 fn wrong_value(alloc: Global, line: &[u8], value: &[u8], reason: &[u8]) -> Stop
-    ensures { IsRefusal result }
+    ensures { IsRefusalOrNoMemory result }
 {
     let Ok(quoted) = quoted_value(alloc, value) else {
         return Stop::NoMemory;
@@ -33,8 +47,8 @@ fn wrong_value(alloc: Global, line: &[u8], value: &[u8], reason: &[u8]) -> Stop
 
 // Returns the algorithm of this name.
 pub(crate) fn algorithm_of(alloc: Global, value: &[u8]) -> Result<Algorithm, Stop>
-    ensures algorithm { IfOk result (λ a. algorithm_in value.now ≡ Some a) }
-    ensures stop { IfErr result (IsWrong (algorithm_in value.now)) }
+    ensures algorithm { IfOk result (λ a. algorithm_of_name value.now ≡ Some a) }
+    ensures stop { IfErr result (StopsSinceNoValue (algorithm_of_name value.now)) }
 {
     if value == b"blake2b".as_slice() {
         return Ok(Algorithm::Blake2b);
@@ -64,8 +78,8 @@ const ZEROS: &[u8] = b"a value of zeros only is the same as none";
 
 // Returns the bytes that hexadecimal digits write: not only zeros.
 pub(crate) fn bytes_of(alloc: Global, line: &[u8], value: &[u8]) -> Result<Vec<u8>, Stop>
-    ensures bytes { IfOk result (λ bytes. bytes_in value.now ≡ Some bytes.items) }
-    ensures stop { IfErr result (IsWrong (bytes_in value.now)) }
+    ensures bytes { IfOk result (λ bytes. nonzero_bytes_of_hex value.now ≡ Some bytes.items) }
+    ensures stop { IfErr result (StopsSinceNoValue (nonzero_bytes_of_hex value.now)) }
 {
     if value.is_empty() {
         return Err(wrong_value(alloc, line, value, NO_DIGITS));
@@ -84,8 +98,9 @@ pub(crate) fn bytes_of(alloc: Global, line: &[u8], value: &[u8]) -> Result<Vec<u
 
 // Returns the digest that hexadecimal digits write: 1 to 64 bytes.
 pub(crate) fn digest_of(alloc: Global, value: &[u8]) -> Result<ExpectedDigest, Stop>
-    ensures digest { IfOk result (λ digest. digest_in value.now ≡ Some digest.bytes.items) }
-    ensures stop { IfErr result (IsWrong (digest_in value.now)) }
+    ensures digest { IfOk result
+        (λ digest. digest_of_hex_value value.now ≡ Some digest.bytes.items) }
+    ensures stop { IfErr result (StopsSinceNoValue (digest_of_hex_value value.now)) }
 {
     let line = b"invalid digest: ";
     if value.is_empty() {
@@ -117,8 +132,8 @@ fn are_zeros(bytes: &[u8]) -> bool
 
 // Returns the bytes of a text: at least one.
 pub(crate) fn text_of(alloc: Global, line: &[u8], value: &[u8]) -> Result<Vec<u8>, Stop>
-    ensures bytes { IfOk result (λ bytes. text_in value.now ≡ Some bytes.items) }
-    ensures stop { IfErr result (IsWrong (text_in value.now)) }
+    ensures bytes { IfOk result (λ bytes. nonempty_text value.now ≡ Some bytes.items) }
+    ensures stop { IfErr result (StopsSinceNoValue (nonempty_text value.now)) }
 {
     if value.is_empty() {
         return Err(wrong_value(alloc, line, value, b"the value has no bytes"));
@@ -128,8 +143,8 @@ pub(crate) fn text_of(alloc: Global, line: &[u8], value: &[u8]) -> Result<Vec<u8
 
 // Returns the number of bytes of a leaf.
 pub(crate) fn leaf_of(alloc: Global, value: &[u8]) -> Result<u32, Stop>
-    ensures leaf { IfOk result (λ leaf. leaf_in value.now ≡ Some leaf) }
-    ensures stop { IfErr result (IsWrong (leaf_in value.now)) }
+    ensures leaf { IfOk result (λ leaf. parsed_leaf_length value.now ≡ Some leaf) }
+    ensures stop { IfErr result (StopsSinceNoValue (parsed_leaf_length value.now)) }
 {
     match number_of(value) {
         Ok(leaf) if leaf > 0 && leaf <= u64::from(u32::MAX) => Ok(leaf as u32),
@@ -142,8 +157,8 @@ pub(crate) fn leaf_of(alloc: Global, value: &[u8]) -> Result<u32, Stop>
 
 // Returns the number of threads.
 pub(crate) fn threads_of(alloc: Global, value: &[u8]) -> Result<u32, Stop>
-    ensures threads { IfOk result (λ threads. threads_in value.now ≡ Some threads) }
-    ensures stop { IfErr result (IsWrong (threads_in value.now)) }
+    ensures threads { IfOk result (λ threads. parsed_thread_count value.now ≡ Some threads) }
+    ensures stop { IfErr result (StopsSinceNoValue (parsed_thread_count value.now)) }
 {
     match number_of(value) {
         Ok(threads) if threads <= u64::from(u32::MAX) => Ok(threads as u32),
@@ -156,8 +171,8 @@ pub(crate) fn threads_of(alloc: Global, value: &[u8]) -> Result<u32, Stop>
 
 // Returns the number of bits of the digests.
 pub(crate) fn bits_of(alloc: Global, value: &[u8]) -> Result<u64, Stop>
-    ensures bits { IfOk result (λ bits. bits_in value.now ≡ Some bits) }
-    ensures stop { IfErr result (IsWrong (bits_in value.now)) }
+    ensures bits { IfOk result (λ bits. parsed_bit_length value.now ≡ Some bits) }
+    ensures stop { IfErr result (StopsSinceNoValue (parsed_bit_length value.now)) }
 {
     let line = b"invalid length: ";
     match number_of(value) {
@@ -174,7 +189,7 @@ pub(crate) fn bits_of(alloc: Global, value: &[u8]) -> Result<u64, Stop>
 // Returns the number that decimal digits write, with blanks and a plus before them or none. The
 // error is what the message has after the value.
 fn number_of(text: &[u8]) -> Result<u64, &'static [u8]>
-    ensures { result_ok result ≡ number_in text.now }
+    ensures { result_ok result ≡ parsed_number text.now }
 {
     let digits = after_plus(after_blanks(text));
     if digits.is_empty() {
@@ -201,7 +216,7 @@ fn number_of(text: &[u8]) -> Result<u64, &'static [u8]>
 
 // Returns the text without the blanks at its front.
 fn after_blanks(text: &[u8]) -> &[u8]
-    ensures { result.now ≡ without_blanks text.now }
+    ensures { result.now ≡ without_leading_blanks text.now }
 {
     let mut at = 0;
     'blanks: while at < text.len() && (text[at] == b' ' || (text[at] >= 9 && text[at] < 14)) {
@@ -212,7 +227,7 @@ fn after_blanks(text: &[u8]) -> &[u8]
 
 // Returns the text without one plus at its front.
 fn after_plus(text: &[u8]) -> &[u8]
-    ensures { result.now ≡ without_plus text.now }
+    ensures { result.now ≡ without_leading_plus text.now }
 {
     match text {
         [b'+', rest @ ..] => rest,

@@ -7,35 +7,36 @@ use Rattle.std.specs.Prelude.{slice_index}
 use Rattle.hex.specs.Hex.{encode_lower, encode_with, lower_digits, IsBytes}
 
 -- Each of the first n digits passes the test.
-abbrev pub all_pass : (ℕ → Bool) → ℕ → Bool
-all_pass p zero = true
-all_pass p (suc n) = p (slice_index lower_digits n) && all_pass p n
+abbrev pub first_digits_pass : (ℕ → Bool) → ℕ → Bool
+first_digits_pass p zero = true
+first_digits_pass p (suc n) = p (slice_index lower_digits n) && first_digits_pass p n
 
-all_pass-at : (p : ℕ → Bool) (n k : ℕ) → all_pass p n ≡ true → k < n
+first_digits_pass-at : (p : ℕ → Bool) (n k : ℕ) → first_digits_pass p n ≡ true → k < n
     → p (slice_index lower_digits k) ≡ true
-all_pass-at p zero k h below = absurd (omega (arith, below))
-all_pass-at p (suc n) k h below =
-    let parts = and_parts (p (slice_index lower_digits n)) (all_pass p n) h in
+first_digits_pass-at p zero k h below = absurd (omega (arith, below))
+first_digits_pass-at p (suc n) k h below =
+    let parts = and_parts (p (slice_index lower_digits n)) (first_digits_pass p n) h in
     elim (cases_lt k n) [
-      | inl less ↦ all_pass-at p n k parts.1 less
+      | inl less ↦ first_digits_pass-at p n k parts.1 less
       | inr top ↦
           let e : k ≡ n = omega (arith, below, top) in
           rw e parts.0
     ]
 
 -- One of the sixteen digits.
-pub digit_passes : (p : ℕ → Bool) → all_pass p 16 ≡ true → (k : ℕ) → k < 16
+pub lower_digit-passes : (p : ℕ → Bool) → first_digits_pass p 16 ≡ true → (k : ℕ) → k < 16
     → p (slice_index lower_digits k) ≡ true
-digit_passes p all k below = all_pass-at p 16 k all below
+lower_digit-passes p all k below = first_digits_pass-at p 16 k all below
 
 -- The digits of bytes.
-pub digits_pass : (p : ℕ → Bool) → all_pass p 16 ≡ true → (bytes : List ℕ) → IsBytes bytes
+pub encoded_digits-pass : (p : ℕ → Bool) → first_digits_pass p 16 ≡ true → (bytes : List ℕ)
+    → IsBytes bytes
     → list_all p (encode_lower bytes) ≡ true
 unfolding encode_with
-digits_pass p all [] are = refl
-digits_pass p all (b ∷ bytes) are =
+encoded_digits-pass p all [] are = refl
+encoded_digits-pass p all (b ∷ bytes) are =
     let small : b < 256 = are 0 in
     rw (
-      digit_passes p all (b / 16) (omega (arith, small)),
-      digit_passes p all (b % 16) (omega (arith, small)),
-    ) (digits_pass p all bytes (λ k. are (suc k)))
+      lower_digit-passes p all (b / 16) (omega (arith, small)),
+      lower_digit-passes p all (b % 16) (omega (arith, small)),
+    ) (encoded_digits-pass p all bytes (λ k. are (suc k)))

@@ -18,147 +18,171 @@ use Rattle.b2sum_lines.specs.declared.entry.Needs.{Needs}
 use Rattle.b2sum_lines.specs.declared.entry.Style.{Style}
 use Rattle.b2sum_lines.specs.declared.entry.Style.TheVariants.{Tagged, Text, Binary, Bare}
 use Rattle.b2sum_lines.specs.ManifestLines.{Line, max_bytes, tag, escape, escaped, needs_escape}
-use Rattle.b2sum_lines.specs.ManifestLines.{HasLeaf}
-use Rattle.b2sum_lines.specs.ManifestLines.{needs_text, part_if, tag_length, body_line, entry_line}
-use Rattle.b2sum_lines.specs.ManifestLines.{name_text, escape_mark, is_special, IsWritable}
-use Rattle.b2sum_lines.proofs.HexDigits.{digit_passes, digits_pass}
-use Rattle.b2sum_lines.proofs.RoundTrip.{max_fits}
+use Rattle.b2sum_lines.specs.ManifestLines.{HasValidLeafLength}
+use Rattle.b2sum_lines.specs.ManifestLines.{needs_text, part_if, tag_length_text, line_after_mark}
+use Rattle.b2sum_lines.specs.ManifestLines.{entry_line}
+use Rattle.b2sum_lines.specs.ManifestLines.{name_in_line, escape_mark, is_special, IsWritable}
+use Rattle.b2sum_lines.proofs.HexDigits.{lower_digit-passes, encoded_digits-pass}
+use Rattle.b2sum_lines.proofs.RoundTrip.{max_bytes-at_most_64}
 
 -- No newline, and no carriage return.
-abbrev pub clear : ℕ → Bool
-clear b = not ((b == 10) || (b == 13))
+abbrev pub is_no_line_end : ℕ → Bool
+is_no_line_end b = not ((b == 10) || (b == 13))
 
 -- The first byte is no comment mark.
-abbrev pub begins : List ℕ → Bool
-begins [] = false
-begins (b ∷ rest) = not (b == 35)
+abbrev pub begins_no_comment : List ℕ → Bool
+begins_no_comment [] = false
+begins_no_comment (b ∷ rest) = not (b == 35)
 
-both : (xs ys : List ℕ) → list_all clear xs ≡ true → list_all clear ys ≡ true
-    → list_all clear (xs ++ ys) ≡ true
-both xs ys first second = list_all-append clear xs ys
-    ∙ and_from (list_all clear xs) (list_all clear ys) first second
+no_line_end-append : (xs ys : List ℕ) → list_all is_no_line_end xs ≡ true
+    → list_all is_no_line_end ys ≡ true
+    → list_all is_no_line_end (xs ++ ys) ≡ true
+no_line_end-append xs ys first second = list_all-append is_no_line_end xs ys
+    ∙ and_from (list_all is_no_line_end xs) (list_all is_no_line_end ys) first second
 
 -- ---- digits
 
-digits_clear : (bytes : List ℕ) → IsBytes bytes → list_all clear (encode_lower bytes) ≡ true
-digits_clear bytes are = digits_pass clear refl bytes are
+digits-have_no_line_end : (bytes : List ℕ) → IsBytes bytes
+    → list_all is_no_line_end (encode_lower bytes) ≡ true
+digits-have_no_line_end bytes are = encoded_digits-pass is_no_line_end refl bytes are
 
-digits_begin : (bytes rest : List ℕ) → IsBytes bytes → 0 < length bytes
-    → begins (encode_lower bytes ++ rest) ≡ true
+digits-begin_no_comment : (bytes rest : List ℕ) → IsBytes bytes → 0 < length bytes
+    → begins_no_comment (encode_lower bytes ++ rest) ≡ true
 unfolding encode_with
-digits_begin [] rest are some = absurd (omega (arith, some))
-digits_begin (b ∷ bytes) rest are some =
-    let small : b < 256 = are 0 in digit_passes (λ d. not (d == 35)) refl (b / 16) (omega (arith, small))
+digits-begin_no_comment [] rest are some = absurd (omega (arith, some))
+digits-begin_no_comment (b ∷ bytes) rest are some =
+    let small : b < 256 = are 0 in lower_digit-passes (λ d. not (d == 35)) refl (b / 16)
+    (omega (arith, small))
 
-decimals_clear : (ds : List ℕ) → AllDigits 10 ds → list_all clear ds ≡ true
-decimals_clear [] each = refl
-decimals_clear (d ∷ ds) each =
+decimals-have_no_line_end : (ds : List ℕ) → AllDigits 10 ds → list_all is_no_line_end ds ≡ true
+decimals-have_no_line_end [] each = refl
+decimals-have_no_line_end (d ∷ ds) each =
     let is = digit_from_value d each.0 in
-    let one : clear d ≡ true = grind (arith, nat_tests, is.0, is.1) in
-    rw one (decimals_clear ds each.1)
+    let one : is_no_line_end d ≡ true = grind (arith, nat_tests, is.0, is.1) in
+    rw one (decimals-have_no_line_end ds each.1)
 
-decimal_clear : (n : ℕ) → n < 2 ^ 64 → list_all clear (decimal n) ≡ true
-decimal_clear n fits = decimals_clear (decimal n) (decimal_is_IsNumeral n fits).0.1
+decimal-has_no_line_end : (n : ℕ) → n < 2 ^ 64 → list_all is_no_line_end (decimal n) ≡ true
+decimal-has_no_line_end n fits = decimals-have_no_line_end (decimal n)
+    (decimal_is_IsNumeral n fits).0.1
 
 -- ---- names
 
-escape_clear : (b : ℕ) → list_all clear (escape b) ≡ true
-escape_clear b = go (b == 92) refl (b == 10) refl (b == 13) refl
+escape-has_no_line_end : (b : ℕ) → list_all is_no_line_end (escape b) ≡ true
+escape-has_no_line_end b = go (b == 92) refl (b == 10) refl (b == 13) refl
   where
     go : (p : Bool) → (b == 92) ≡ p → (q : Bool) → (b == 10) ≡ q → (r : Bool) → (b == 13) ≡ r
-        → list_all clear (escape b) ≡ true
+        → list_all is_no_line_end (escape b) ≡ true
     go true is q _ r _ = rw is refl
     go false a92 true is r _ = rw (a92, is) refl
     go false a92 false a10 true is = rw (a92, a10, is) refl
     go false a92 false a10 false a13 = rw (a92, a10, a13, a10, a13) refl
 
-escaped_clear : (name : List ℕ) → list_all clear (escaped name) ≡ true
-escaped_clear [] = refl
-escaped_clear (b ∷ name) = both (escape b) (escaped name) (escape_clear b) (escaped_clear name)
+escaped-has_no_line_end : (name : List ℕ) → list_all is_no_line_end (escaped name) ≡ true
+escaped-has_no_line_end [] = refl
+escaped-has_no_line_end (b ∷ name) = no_line_end-append (escape b) (escaped name)
+    (escape-has_no_line_end b) (escaped-has_no_line_end name)
 
-plain_clear : (name : List ℕ) → needs_escape name ≡ false → list_all clear name ≡ true
-plain_clear [] none = refl
-plain_clear (b ∷ name) none =
+plain_name-has_no_line_end : (name : List ℕ) → needs_escape name ≡ false
+    → list_all is_no_line_end name ≡ true
+plain_name-has_no_line_end [] none = refl
+plain_name-has_no_line_end (b ∷ name) none =
     let parts = or_parts (is_special b) (needs_escape name) none in
     let ends = or_parts (b == 92) ((b == 10) || (b == 13)) parts.0 in
-    rw (ends.1) (plain_clear name parts.1)
+    rw (ends.1) (plain_name-has_no_line_end name parts.1)
 
-name_clear : (name : List ℕ) → list_all clear (name_text name) ≡ true
-name_clear name = go (needs_escape name) refl
+name-has_no_line_end : (name : List ℕ) → list_all is_no_line_end (name_in_line name) ≡ true
+name-has_no_line_end name = go (needs_escape name) refl
   where
-    go : (b : Bool) → needs_escape name ≡ b → list_all clear (name_text name) ≡ true
-    go true is = rw is (escaped_clear name)
-    go false is = rw is (plain_clear name is)
+    go : (b : Bool) → needs_escape name ≡ b → list_all is_no_line_end (name_in_line name) ≡ true
+    go true is = rw is (escaped-has_no_line_end name)
+    go false is = rw is (plain_name-has_no_line_end name is)
 
 -- ---- tags
 
-tag_clear : (a : Algorithm) → HasLeaf a → list_all clear (tag a) ≡ true
-tag_clear Blake2b leaf = refl
-tag_clear Blake2s leaf = refl
-tag_clear Blake2bp leaf = refl
-tag_clear Blake2sp leaf = refl
-tag_clear (Tree n) leaf =
-    both (codes "BLAKE2b-tree-") (decimal n) refl (decimal_clear n (omega (arith, leaf.1)))
+tag-has_no_line_end : (a : Algorithm) → HasValidLeafLength a → list_all is_no_line_end (tag a)
+    ≡ true
+tag-has_no_line_end Blake2b leaf = refl
+tag-has_no_line_end Blake2s leaf = refl
+tag-has_no_line_end Blake2bp leaf = refl
+tag-has_no_line_end Blake2sp leaf = refl
+tag-has_no_line_end (Tree n) leaf =
+    no_line_end-append (codes "BLAKE2b-tree-") (decimal n) refl
+    (decimal-has_no_line_end n (omega (arith, leaf.1)))
 
-needs_clear : (needs : Needs) → list_all clear (needs_text needs) ≡ true
-needs_clear needs =
-    both (part_if needs.key (codes "-key")) _ (part needs.key (codes "-key") refl)
-    (both (part_if needs.salt (codes "-salt")) (part_if needs.personal (codes "-personal"))
+needs-have_no_line_end : (needs : Needs) → list_all is_no_line_end (needs_text needs) ≡ true
+needs-have_no_line_end needs =
+    no_line_end-append (part_if needs.key (codes "-key")) _ (part needs.key (codes "-key") refl)
+    (no_line_end-append (part_if needs.salt (codes "-salt"))
+    (part_if needs.personal (codes "-personal"))
     (part needs.salt (codes "-salt") refl) (part needs.personal (codes "-personal") refl))
   where
-    part : (is : Bool) (text : List ℕ) → list_all clear text ≡ true
-        → list_all clear (part_if is text) ≡ true
+    part : (is : Bool) (text : List ℕ) → list_all is_no_line_end text ≡ true
+        → list_all is_no_line_end (part_if is text) ≡ true
     part true text h = h
     part false text h = refl
 
-length_clear : (a : Algorithm) (n : ℕ) → n ≤ 64 → list_all clear (tag_length a n) ≡ true
-length_clear a n fits = go (n == max_bytes a) refl
+tag_length-has_no_line_end : (a : Algorithm) (n : ℕ) → n ≤ 64
+    → list_all is_no_line_end (tag_length_text a n) ≡ true
+tag_length-has_no_line_end a n fits = go (n == max_bytes a) refl
   where
-    go : (b : Bool) → (n == max_bytes a) ≡ b → list_all clear (tag_length a n) ≡ true
+    go : (b : Bool) → (n == max_bytes a) ≡ b → list_all is_no_line_end (tag_length_text a n) ≡ true
     go true is = rw is refl
-    go false is = rw is (decimal_clear (8 * n) (omega (arith, fits)))
+    go false is = rw is (decimal-has_no_line_end (8 * n) (omega (arith, fits)))
 
 -- ---- whole lines
 
-body_clear : (style : Style) (a : Algorithm) (digest text : List ℕ) → IsBytes digest
-    → length digest ≤ 64 → HasLeaf a → list_all clear text ≡ true
-    → list_all clear (body_line style a digest text) ≡ true
-body_clear (Tagged needs) a digest text are fits leaf name =
-    both (tag a) _ (tag_clear a leaf) (both (needs_text needs) _ (needs_clear needs)
-    (both (tag_length a (length digest)) _ (length_clear a (length digest) fits)
-    (both text (codes ") = " ++ encode_lower digest) name (digits_clear digest are))))
-body_clear Text a digest text are fits leaf name =
-    both (encode_lower digest) (32 ∷ 32 ∷ text) (digits_clear digest are) name
-body_clear Binary a digest text are fits leaf name =
-    both (encode_lower digest) (32 ∷ 42 ∷ text) (digits_clear digest are) name
-body_clear Bare a digest text are fits leaf name =
-    both (encode_lower digest) (32 ∷ text) (digits_clear digest are) name
+body-has_no_line_end : (style : Style) (a : Algorithm) (digest text : List ℕ) → IsBytes digest
+    → length digest ≤ 64 → HasValidLeafLength a → list_all is_no_line_end text ≡ true
+    → list_all is_no_line_end (line_after_mark style a digest text) ≡ true
+body-has_no_line_end (Tagged needs) a digest text are fits leaf name =
+    no_line_end-append (tag a) _ (tag-has_no_line_end a leaf)
+    (no_line_end-append (needs_text needs) _ (needs-have_no_line_end needs)
+    (no_line_end-append (tag_length_text a (length digest)) _
+    (tag_length-has_no_line_end a (length digest) fits)
+    (no_line_end-append text (codes ") = " ++ encode_lower digest) name
+    (digits-have_no_line_end digest are))))
+body-has_no_line_end Text a digest text are fits leaf name =
+    no_line_end-append (encode_lower digest) (32 ∷ 32 ∷ text) (digits-have_no_line_end digest are)
+    name
+body-has_no_line_end Binary a digest text are fits leaf name =
+    no_line_end-append (encode_lower digest) (32 ∷ 42 ∷ text) (digits-have_no_line_end digest are)
+    name
+body-has_no_line_end Bare a digest text are fits leaf name =
+    no_line_end-append (encode_lower digest) (32 ∷ text) (digits-have_no_line_end digest are) name
 
-body_begins : (style : Style) (a : Algorithm) (digest text : List ℕ) → IsBytes digest
-    → 0 < length digest → begins (body_line style a digest text) ≡ true
-body_begins (Tagged needs) Blake2b digest text are some = refl
-body_begins (Tagged needs) Blake2s digest text are some = refl
-body_begins (Tagged needs) Blake2bp digest text are some = refl
-body_begins (Tagged needs) Blake2sp digest text are some = refl
-body_begins (Tagged needs) (Tree leaf) digest text are some = refl
-body_begins Text a digest text are some = digits_begin digest (32 ∷ 32 ∷ text) are some
-body_begins Binary a digest text are some = digits_begin digest (32 ∷ 42 ∷ text) are some
-body_begins Bare a digest text are some = digits_begin digest (32 ∷ text) are some
+body-begins_no_comment : (style : Style) (a : Algorithm) (digest text : List ℕ) → IsBytes digest
+    → 0 < length digest → begins_no_comment (line_after_mark style a digest text) ≡ true
+body-begins_no_comment (Tagged needs) Blake2b digest text are some = refl
+body-begins_no_comment (Tagged needs) Blake2s digest text are some = refl
+body-begins_no_comment (Tagged needs) Blake2bp digest text are some = refl
+body-begins_no_comment (Tagged needs) Blake2sp digest text are some = refl
+body-begins_no_comment (Tagged needs) (Tree leaf) digest text are some = refl
+body-begins_no_comment Text a digest text are some = digits-begin_no_comment digest (32 ∷ 32 ∷ text)
+    are some
+body-begins_no_comment Binary a digest text are some = digits-begin_no_comment digest
+    (32 ∷ 42 ∷ text) are some
+body-begins_no_comment Bare a digest text are some = digits-begin_no_comment digest (32 ∷ text) are
+    some
 
 -- The line of an entry has no newline and no carriage return.
-pub line_clear : (e : Line) → IsWritable e → list_all clear (entry_line e) ≡ true
-line_clear e w = both (escape_mark e.name) _ (mark_clear (needs_escape e.name))
-    (body_clear e.style e.algorithm e.digest (name_text e.name) w.are_bytes
-    (max_fits e.algorithm (length e.digest) w.fits) w.has_leaf (name_clear e.name))
+pub entry_line-has_no_line_end : (e : Line) → IsWritable e → list_all is_no_line_end (entry_line e)
+    ≡ true
+entry_line-has_no_line_end e w = no_line_end-append (escape_mark e.name) _
+    (mark_clear (needs_escape e.name))
+    (body-has_no_line_end e.style e.algorithm e.digest (name_in_line e.name) w.are_bytes
+    (max_bytes-at_most_64 e.algorithm (length e.digest) w.fits) w.has_leaf
+    (name-has_no_line_end e.name))
   where
-    mark_clear : (b : Bool) → list_all clear (if b then 92 ∷ [] else []) ≡ true
+    mark_clear : (b : Bool) → list_all is_no_line_end (if b then 92 ∷ [] else []) ≡ true
     mark_clear true = refl
     mark_clear false = refl
 
 -- The line of an entry begins with no comment mark.
-pub line_begins : (e : Line) → IsWritable e → begins (entry_line e) ≡ true
-line_begins e w = go (needs_escape e.name) refl
+pub entry_line-begins_no_comment : (e : Line) → IsWritable e → begins_no_comment (entry_line e)
+    ≡ true
+entry_line-begins_no_comment e w = go (needs_escape e.name) refl
   where
-    go : (b : Bool) → needs_escape e.name ≡ b → begins (entry_line e) ≡ true
+    go : (b : Bool) → needs_escape e.name ≡ b → begins_no_comment (entry_line e) ≡ true
     go true is = rw is refl
-    go false is = rw is (body_begins e.style e.algorithm e.digest e.name w.are_bytes w.some_digest)
+    go false is = rw is
+        (body-begins_no_comment e.style e.algorithm e.digest e.name w.are_bytes w.some_digest)

@@ -88,29 +88,30 @@ abbrev pub escape_mark : List ℕ → List ℕ
 escape_mark name = if needs_escape name then 92 ∷ [] else []
 
 -- A name as a line has it.
-abbrev pub name_text : List ℕ → List ℕ
-name_text name = if needs_escape name then escaped name else name
+abbrev pub name_in_line : List ℕ → List ℕ
+name_in_line name = if needs_escape name then escaped name else name
 
 -- The length of the digest in a tag, in bits, left out for the longest digest.
-abbrev pub tag_length : Algorithm → ℕ → List ℕ
-tag_length a n = if n == max_bytes a then [] else 45 ∷ decimal (8 * n)
+abbrev pub tag_length_text : Algorithm → ℕ → List ℕ
+tag_length_text a n = if n == max_bytes a then [] else 45 ∷ decimal (8 * n)
 
 -- The line of a name's text and a digest in one style, without a mark and a newline.
-abbrev pub body_line : Style → Algorithm → List ℕ → List ℕ → List ℕ
-body_line (Tagged needs) a digest text =
-    tag a ++ (needs_text needs ++ (tag_length a (length digest)
+abbrev pub line_after_mark : Style → Algorithm → List ℕ → List ℕ → List ℕ
+line_after_mark (Tagged needs) a digest text =
+    tag a ++ (needs_text needs ++ (tag_length_text a (length digest)
     ++ (codes " (" ++ (text ++ (codes ") = " ++ encode_lower digest)))))
-body_line Text a digest text = encode_lower digest ++ (32 ∷ 32 ∷ text)
-body_line Binary a digest text = encode_lower digest ++ (32 ∷ 42 ∷ text)
-body_line Bare a digest text = encode_lower digest ++ (32 ∷ text)
+line_after_mark Text a digest text = encode_lower digest ++ (32 ∷ 32 ∷ text)
+line_after_mark Binary a digest text = encode_lower digest ++ (32 ∷ 42 ∷ text)
+line_after_mark Bare a digest text = encode_lower digest ++ (32 ∷ text)
 
 -- The line of an entry, without its newline.
 abbrev pub entry_line : Line → List ℕ
-entry_line e = escape_mark e.name ++ body_line e.style e.algorithm e.digest (name_text e.name)
+entry_line e = escape_mark e.name
+    ++ line_after_mark e.style e.algorithm e.digest (name_in_line e.name)
 
 -- The line of an entry whose name is written as it is, for lines that end with a zero byte.
-abbrev pub plain_line : Line → List ℕ
-plain_line e = body_line e.style e.algorithm e.digest e.name
+abbrev pub unescaped_line : Line → List ℕ
+unescaped_line e = line_after_mark e.style e.algorithm e.digest e.name
 
 -- A space or a tab.
 abbrev pub is_blank : ℕ → Bool
@@ -130,14 +131,15 @@ abbrev pub prepend_to_first : ℕ → List ℕ × List ℕ → List ℕ × List 
 prepend_to_first b parts = (b ∷ parts.0, parts.1)
 
 -- The parts around a byte, if the first part has been cut from what follows it.
-abbrev pub cut_here : ℕ → ℕ → List ℕ → Option (List ℕ × List ℕ) → Option (List ℕ × List ℕ)
-cut_here byte b rest (Some parts) = Some (prepend_to_first b parts)
-cut_here byte b rest None = if b == byte then Some ([], rest) else None
+abbrev pub split_here_or_later : ℕ → ℕ → List ℕ → Option (List ℕ × List ℕ)
+    → Option (List ℕ × List ℕ)
+split_here_or_later byte b rest (Some parts) = Some (prepend_to_first b parts)
+split_here_or_later byte b rest None = if b == byte then Some ([], rest) else None
 
 -- What is before the last such byte, and what is after it.
 abbrev pub split_at_last : ℕ → List ℕ → Option (List ℕ × List ℕ)
 split_at_last byte [] = None
-split_at_last byte (b ∷ rest) = cut_here byte b rest (split_at_last byte rest)
+split_at_last byte (b ∷ rest) = split_here_or_later byte b rest (split_at_last byte rest)
 
 -- The byte that a backslash and this byte stand for.
 abbrev pub escape_value : ℕ → Option ℕ
@@ -165,23 +167,23 @@ abbrev pub has_zero : List ℕ → Bool
 has_zero name = list_any (λ b. b == 0) name
 
 -- A name without a zero byte.
-abbrev pub checked_name : List ℕ → Option (List ℕ)
-checked_name name = if has_zero name then None else Some name
+abbrev pub name_without_zero : List ℕ → Option (List ℕ)
+name_without_zero name = if has_zero name then None else Some name
 
 -- The name that a text stands for.
-abbrev pub name_of : Bool → List ℕ → Option (List ℕ)
-name_of true text = option_and_then checked_name (unescaped text)
-name_of false text = checked_name text
+abbrev pub name_of_text : Bool → List ℕ → Option (List ℕ)
+name_of_text true text = option_and_then name_without_zero (unescaped text)
+name_of_text false text = name_without_zero text
 
 -- A digest of a length that the algorithm has.
-abbrev pub checked_digest : Algorithm → Result (List ℕ) FromHexError → Option (List ℕ)
-checked_digest a (Ok bytes) =
+abbrev pub digest_if_length_fits : Algorithm → Result (List ℕ) FromHexError → Option (List ℕ)
+digest_if_length_fits a (Ok bytes) =
     if nat_lt 0 (length bytes) && nat_le (length bytes) (max_bytes a) then Some bytes else None
-checked_digest a (Err e) = None
+digest_if_length_fits a (Err e) = None
 
 -- The digest of hexadecimal digits of either case.
 abbrev pub digest_of_digits : Algorithm → List ℕ → Option (List ℕ)
-digest_of_digits a digits = checked_digest a (decode_of digits)
+digest_of_digits a digits = digest_if_length_fits a (decode_of digits)
 
 -- The style and the text of a name.
 pub record Named : Type 0 where
@@ -189,45 +191,45 @@ pub record Named : Type 0 where
   pub text : List ℕ
 
 -- A name with one space before it, unless the manifest has two.
-abbrev pub one_space : Spacing → List ℕ → Option Named
-one_space Two text = None
-one_space Open text = Some (record { style = Bare; text = text })
-one_space One text = Some (record { style = Bare; text = text })
+abbrev pub name_after_one_space : Spacing → List ℕ → Option Named
+name_after_one_space Two text = None
+name_after_one_space Open text = Some (record { style = Bare; text = text })
+name_after_one_space One text = Some (record { style = Bare; text = text })
 
 -- The style of a mark, the second byte after the digits.
 abbrev pub mark_style : ℕ → Style
 mark_style m = if m == 42 then Binary else Text
 
 -- A name with a mark before it, unless the manifest has one space.
-abbrev pub two_spaces : Spacing → ℕ → List ℕ → Option Named
-two_spaces One m text = Some (record { style = Bare; text = m ∷ text })
-two_spaces Open m text = Some (record { style = mark_style m; text = text })
-two_spaces Two m text = Some (record { style = mark_style m; text = text })
+abbrev pub name_after_mark : Spacing → ℕ → List ℕ → Option Named
+name_after_mark One m text = Some (record { style = Bare; text = m ∷ text })
+name_after_mark Open m text = Some (record { style = mark_style m; text = text })
+name_after_mark Two m text = Some (record { style = mark_style m; text = text })
 
 -- The name after the blank that follows the digits.
-abbrev pub after_blank : Spacing → List ℕ → Option Named
-after_blank spacing [] = one_space spacing []
-after_blank spacing (m ∷ []) = one_space spacing (m ∷ [])
-after_blank spacing (m ∷ c ∷ rest) =
-    if (m == 32) || (m == 42) then two_spaces spacing m (c ∷ rest)
-    else one_space spacing (m ∷ c ∷ rest)
+abbrev pub name_after_blank : Spacing → List ℕ → Option Named
+name_after_blank spacing [] = name_after_one_space spacing []
+name_after_blank spacing (m ∷ []) = name_after_one_space spacing (m ∷ [])
+name_after_blank spacing (m ∷ c ∷ rest) =
+    if (m == 32) || (m == 42) then name_after_mark spacing m (c ∷ rest)
+    else name_after_one_space spacing (m ∷ c ∷ rest)
 
 -- The name after the digits.
-abbrev pub after_digits : Spacing → List ℕ → Option Named
-after_digits spacing [] = None
-after_digits spacing (b ∷ rest) = if is_blank b then after_blank spacing rest else None
+abbrev pub name_after_digits : Spacing → List ℕ → Option Named
+name_after_digits spacing [] = None
+name_after_digits spacing (b ∷ rest) = if is_blank b then name_after_blank spacing rest else None
 
 -- An entry of parts that are all there.
 abbrev pub entry_with : Algorithm → Bool → List ℕ → Named → Option Line
 entry_with a is_escaped digest named =
     option_map (λ name. record { algorithm = a; digest = digest; name = name; style = named.style })
-    (name_of is_escaped named.text)
+    (name_of_text is_escaped named.text)
 
 -- The entry of a line with the digits first.
 abbrev pub untagged_entry : Algorithm → Spacing → Bool → List ℕ → Option Line
 untagged_entry a spacing is_escaped line =
     option_and_then (λ digest. option_and_then (entry_with a is_escaped digest)
-    (after_digits spacing (drop_while is_hex_digit line)))
+    (name_after_digits spacing (drop_while is_hex_digit line)))
     (digest_of_digits a (take_while is_hex_digit line))
 
 -- What follows these bytes at the front of a text.
@@ -237,80 +239,82 @@ after_prefix bytes text =
 
 -- Decimal digits write the number of bytes of a leaf: 1 to 2^32 - 1, with no leading zero. 48 is
 -- the digit 0.
-abbrev pub is_leaf : List ℕ → Bool
-is_leaf digits =
+abbrev pub is_leaf_length : List ℕ → Bool
+is_leaf_length digits =
     nat_le (length digits) 10 && (not (get_or digits 0 48 == 48)
     && (list_all is_ascii_digit digits && nat_lt (digits_value 10 digits) (2 ^ 32)))
 
 -- The number of bytes of a leaf that decimal digits write.
-abbrev pub leaf_value : List ℕ → Option ℕ
-leaf_value digits = if is_leaf digits then Some (digits_value 10 digits) else None
+abbrev pub leaf_length_of_digits : List ℕ → Option ℕ
+leaf_length_of_digits digits = if is_leaf_length digits then Some (digits_value 10 digits) else None
 
 -- A tree with leaves of so many bytes as the digits at the front of a text say, and the rest of
 -- that.
-abbrev pub tree_tag : List ℕ → Option (Algorithm × List ℕ)
-tree_tag text =
+abbrev pub tree_at_front : List ℕ → Option (Algorithm × List ℕ)
+tree_at_front text =
     option_map (λ leaf. (Tree leaf, drop_while is_ascii_digit text))
-    (leaf_value (take_while is_ascii_digit text))
+    (leaf_length_of_digits (take_while is_ascii_digit text))
 
 -- The algorithm whose name goes on so after `BLAKE2b`, and what follows its name. What follows
 -- `-tree-` is given, if that is there.
 abbrev pub blake2b_or_tree : List ℕ → Option (List ℕ) → Option (Algorithm × List ℕ)
-blake2b_or_tree text (Some rest) = tree_tag rest
+blake2b_or_tree text (Some rest) = tree_at_front rest
 blake2b_or_tree text None = Some (Blake2b, text)
 
 -- The same, if what follows a `p` is given, if that is there.
-abbrev pub blake2b_tag : List ℕ → Option (List ℕ) → Option (Algorithm × List ℕ)
-blake2b_tag text (Some rest) = Some (Blake2bp, rest)
-blake2b_tag text None = blake2b_or_tree text (after_prefix (codes "-tree-") text)
+abbrev pub algorithm_after_blake2b : List ℕ → Option (List ℕ) → Option (Algorithm × List ℕ)
+algorithm_after_blake2b text (Some rest) = Some (Blake2bp, rest)
+algorithm_after_blake2b text None = blake2b_or_tree text (after_prefix (codes "-tree-") text)
 
 -- The algorithm whose name goes on so after `BLAKE2s`, and what follows its name.
-abbrev pub blake2s_tag : List ℕ → Option (List ℕ) → Algorithm × List ℕ
-blake2s_tag text (Some rest) = (Blake2sp, rest)
-blake2s_tag text None = (Blake2s, text)
+abbrev pub algorithm_after_blake2s : List ℕ → Option (List ℕ) → Algorithm × List ℕ
+algorithm_after_blake2s text (Some rest) = (Blake2sp, rest)
+algorithm_after_blake2s text None = (Blake2s, text)
 
 -- The algorithm of a line, if what follows `BLAKE2b` is given, if that is at its front.
-abbrev pub tag_after : List ℕ → Option (List ℕ) → Option (Algorithm × List ℕ)
-tag_after line (Some rest) = blake2b_tag rest (after_prefix (codes "p") rest)
-tag_after line None =
-    option_map (λ rest. blake2s_tag rest (after_prefix (codes "p") rest))
+abbrev pub algorithm_after_front : List ℕ → Option (List ℕ) → Option (Algorithm × List ℕ)
+algorithm_after_front line (Some rest) = algorithm_after_blake2b rest
+    (after_prefix (codes "p") rest)
+algorithm_after_front line None =
+    option_map (λ rest. algorithm_after_blake2s rest (after_prefix (codes "p") rest))
     (after_prefix (codes "BLAKE2s") line)
 
 -- The algorithm that the tag at the front of a line names, and what follows its name.
-abbrev pub tag_at : List ℕ → Option (Algorithm × List ℕ)
-tag_at line = tag_after line (after_prefix (codes "BLAKE2b") line)
+abbrev pub algorithm_at_front : List ℕ → Option (Algorithm × List ℕ)
+algorithm_at_front line = algorithm_after_front line (after_prefix (codes "BLAKE2b") line)
 
 -- Whether a part is at the front of a text, and what follows it, which is given if it is there.
-abbrev pub part_or : List ℕ → Option (List ℕ) → Bool × List ℕ
-part_or text (Some rest) = (true, rest)
-part_or text None = (false, text)
+abbrev pub tag_part_or_text : List ℕ → Option (List ℕ) → Bool × List ℕ
+tag_part_or_text text (Some rest) = (true, rest)
+tag_part_or_text text None = (false, text)
 
 -- Whether a part is at the front of a text, and what follows it.
-abbrev pub part_at : List ℕ → List ℕ → Bool × List ℕ
-part_at part text = part_or text (after_prefix part text)
+abbrev pub tag_part_at_front : List ℕ → List ℕ → Bool × List ℕ
+tag_part_at_front part text = tag_part_or_text text (after_prefix part text)
 
 -- What a tag needs, by its parts, and what follows the last of them.
-abbrev pub with_personal : Bool → Bool → Bool × List ℕ → Needs × List ℕ
-with_personal key salt personal =
+abbrev pub needs_after_personal : Bool → Bool → Bool × List ℕ → Needs × List ℕ
+needs_after_personal key salt personal =
     (record { key = key; salt = salt; personal = personal.0 }, personal.1)
 
 -- What a tag needs, by its parts up to that of the salt and what follows that.
-abbrev pub with_salt : Bool → Bool × List ℕ → Needs × List ℕ
-with_salt key salt = with_personal key salt.0 (part_at (codes "-personal") salt.1)
+abbrev pub needs_after_salt : Bool → Bool × List ℕ → Needs × List ℕ
+needs_after_salt key salt = needs_after_personal key salt.0
+    (tag_part_at_front (codes "-personal") salt.1)
 
 -- What a tag needs, by the part of the key and what follows that.
-abbrev pub with_key : Bool × List ℕ → Needs × List ℕ
-with_key key = with_salt key.0 (part_at (codes "-salt") key.1)
+abbrev pub needs_after_key : Bool × List ℕ → Needs × List ℕ
+needs_after_key key = needs_after_salt key.0 (tag_part_at_front (codes "-salt") key.1)
 
 -- What a tag says of a key, a salt and a personalization after the name of the algorithm, and what
 -- follows that.
-abbrev pub needs_at : List ℕ → Needs × List ℕ
-needs_at text = with_key (part_at (codes "-key") text)
+abbrev pub needs_at_front : List ℕ → Needs × List ℕ
+needs_at_front text = needs_after_key (tag_part_at_front (codes "-key") text)
 
 -- What follows the length of the digest, which may be left out for the longest digest.
-abbrev pub after_length : Bool → List ℕ → Option (List ℕ) → Option (List ℕ)
-after_length is_longest text (Some rest) = Some rest
-after_length is_longest text None = if is_longest then Some text else None
+abbrev pub text_after_digest_length : Bool → List ℕ → Option (List ℕ) → Option (List ℕ)
+text_after_digest_length is_longest text (Some rest) = Some rest
+text_after_digest_length is_longest text None = if is_longest then Some text else None
 
 -- What follows an opening parenthesis.
 abbrev pub after_parenthesis : List ℕ → Option (List ℕ)
@@ -318,53 +322,55 @@ after_parenthesis [] = None
 after_parenthesis (b ∷ rest) = if b == 40 then Some rest else None
 
 -- What follows an opening parenthesis, with one space before it or none.
-abbrev pub after_opening : List ℕ → Option (List ℕ)
-after_opening [] = None
-after_opening (b ∷ rest) = if b == 32 then after_parenthesis rest else after_parenthesis (b ∷ rest)
+abbrev pub text_after_opening : List ℕ → Option (List ℕ)
+text_after_opening [] = None
+text_after_opening (b ∷ rest) = if b == 32 then after_parenthesis rest else after_parenthesis
+    (b ∷ rest)
 
 -- The text of the name, in what follows the tag up to the last parenthesis.
-abbrev pub tagged_text : Algorithm → ℕ → List ℕ → Option (List ℕ)
-tagged_text a n text =
-    option_and_then after_opening
-    (after_length (n == max_bytes a) text (after_prefix (45 ∷ decimal (8 * n)) text))
+abbrev pub name_after_tag : Algorithm → ℕ → List ℕ → Option (List ℕ)
+name_after_tag a n text =
+    option_and_then text_after_opening
+    (text_after_digest_length (n == max_bytes a) text (after_prefix (45 ∷ decimal (8 * n)) text))
 
 -- The digits after the last parenthesis: blanks, `=`, blanks, digits.
-abbrev pub after_equals : List ℕ → Option (List ℕ)
-after_equals [] = None
-after_equals (b ∷ rest) = if b == 61 then Some (drop_while is_blank rest) else None
+abbrev pub digits_after_equals : List ℕ → Option (List ℕ)
+digits_after_equals [] = None
+digits_after_equals (b ∷ rest) = if b == 61 then Some (drop_while is_blank rest) else None
 
 -- The entry of what follows such a tag, cut at the last parenthesis.
-abbrev pub tagged_parts : Algorithm → Needs → Bool → List ℕ × List ℕ → Option Line
-tagged_parts a needs is_escaped parts =
+abbrev pub tagged_entry_of_parts : Algorithm → Needs → Bool → List ℕ × List ℕ → Option Line
+tagged_entry_of_parts a needs is_escaped parts =
     option_and_then (λ digits. option_and_then (λ digest. option_and_then
     (λ text. entry_with a is_escaped digest (record { style = Tagged needs; text = text }))
-    (tagged_text a (length digest) parts.0)) (digest_of_digits a digits))
-    (after_equals (drop_while is_blank parts.1))
+    (name_after_tag a (length digest) parts.0)) (digest_of_digits a digits))
+    (digits_after_equals (drop_while is_blank parts.1))
 
 -- The entry of an algorithm with what its tag needs, and what follows that.
 abbrev pub tagged_entry : Algorithm → Bool → Needs × List ℕ → Option Line
 tagged_entry a is_escaped tag =
-    option_and_then (tagged_parts a tag.0 is_escaped) (split_at_last 41 tag.1)
+    option_and_then (tagged_entry_of_parts a tag.0 is_escaped) (split_at_last 41 tag.1)
 
 -- The entry of a line without its mark: a tagged line, if there is a tag, whose algorithm is that
 -- of the tag. A tree has no other lines.
-abbrev pub body_entry : Algorithm → Spacing → Bool → List ℕ → Option (Algorithm × List ℕ)
+abbrev pub entry_after_mark : Algorithm → Spacing → Bool → List ℕ → Option (Algorithm × List ℕ)
     → Option Line
-body_entry a spacing is_escaped line (Some t) = tagged_entry t.0 is_escaped (needs_at t.1)
-body_entry a spacing is_escaped line None =
+entry_after_mark a spacing is_escaped line (Some t) = tagged_entry t.0 is_escaped
+    (needs_at_front t.1)
+entry_after_mark a spacing is_escaped line None =
     if is_tree a then None else untagged_entry a spacing is_escaped line
 
 -- The entry of a line without blanks at its front.
-abbrev pub marked_entry : Algorithm → Spacing → List ℕ → Option Line
-marked_entry a spacing [] = None
-marked_entry a spacing (b ∷ rest) =
-    if b == 92 then body_entry a spacing true rest (tag_at rest)
-    else body_entry a spacing false (b ∷ rest) (tag_at (b ∷ rest))
+abbrev pub entry_without_blanks : Algorithm → Spacing → List ℕ → Option Line
+entry_without_blanks a spacing [] = None
+entry_without_blanks a spacing (b ∷ rest) =
+    if b == 92 then entry_after_mark a spacing true rest (algorithm_at_front rest)
+    else entry_after_mark a spacing false (b ∷ rest) (algorithm_at_front (b ∷ rest))
 
 -- The entry that a line is read as, if it is one: that of its tag, or else one of the algorithm.
 -- The line has no newline.
 abbrev pub line_entry : Algorithm → Spacing → List ℕ → Option Line
-line_entry a spacing line = marked_entry a spacing (drop_while is_blank line)
+line_entry a spacing line = entry_without_blanks a spacing (drop_while is_blank line)
 
 -- The line of this style is tagged.
 abbrev pub is_tagged : Style → Bool
@@ -374,12 +380,12 @@ is_tagged Binary = false
 is_tagged Bare = false
 
 -- The leaves of a tree have a length that trees have.
-abbrev pub HasLeaf : Algorithm → Type 0
-HasLeaf Blake2b = ⊤
-HasLeaf Blake2s = ⊤
-HasLeaf Blake2bp = ⊤
-HasLeaf Blake2sp = ⊤
-HasLeaf (Tree leaf) = (0 < leaf) × (leaf < 2 ^ 32)
+abbrev pub HasValidLeafLength : Algorithm → Type 0
+HasValidLeafLength Blake2b = ⊤
+HasValidLeafLength Blake2s = ⊤
+HasValidLeafLength Blake2bp = ⊤
+HasValidLeafLength Blake2sp = ⊤
+HasValidLeafLength (Tree leaf) = (0 < leaf) × (leaf < 2 ^ 32)
 
 -- The entries whose lines can be read: a digest of the algorithm's bytes, a name of a file, and a
 -- tag for the root of a tree.
@@ -390,7 +396,7 @@ pub record IsWritable (e : Line) : Type 0 where
   pub some_name : 0 < length e.name
   pub no_zero : has_zero e.name ≡ false
   pub tagged : is_tree e.algorithm ≡ true → is_tagged e.style ≡ true
-  pub has_leaf : HasLeaf e.algorithm
+  pub has_leaf : HasValidLeafLength e.algorithm
 
 -- The line is read as this entry, whatever the lines before had, unless they had one space.
 abbrev pub IsReadBack : Line → List ℕ → Type 0

@@ -2,19 +2,23 @@
 
 ghost use Rattle.std.specs.Prelude.{◌≡◌, ◌≤◌, length, IfOk, IfSome};
 ghost use Rattle.std.specs.Option.{option_map};
-ghost use Rattle.b2sum_lines.specs.ManifestLines.{line_entry, body_entry, untagged_entry};
+ghost use Rattle.b2sum_lines.specs.ManifestLines.{line_entry, entry_after_mark, untagged_entry};
 ghost use Rattle.b2sum_lines.specs.ManifestLines.{tagged_entry};
-ghost use Rattle.b2sum_lines.specs.ManifestLines.{after_digits, after_blank, after_equals};
-ghost use Rattle.b2sum_lines.specs.ManifestLines.{tagged_text};
-ghost use Rattle.b2sum_lines.specs.ManifestLines.{after_opening, after_parenthesis};
+ghost use Rattle.b2sum_lines.specs.ManifestLines.{
+  name_after_digits,
+  name_after_blank,
+  digits_after_equals,
+};
+ghost use Rattle.b2sum_lines.specs.ManifestLines.{name_after_tag};
+ghost use Rattle.b2sum_lines.specs.ManifestLines.{text_after_opening, after_parenthesis};
 ghost use Rattle.b2sum_lines.specs.ManifestLines.{digest_of_digits, entry_with};
 ghost use Rattle.b2sum_lines.specs.ManifestLines.{after_prefix};
-ghost use Rattle.b2sum_lines.specs.ManifestLines.{tag_at, needs_at};
+ghost use Rattle.b2sum_lines.specs.ManifestLines.{algorithm_at_front, needs_at_front};
 ghost use Rattle.b2sum_lines.specs.EntryViews.{entry_value};
 
 use crate::cuts::{after_prefix, skip_blanks, skip_digits, split_at_last};
 use crate::entry::{Algorithm, Entry, Spacing, Style};
-use crate::names::name_of;
+use crate::names::name_of_text;
 use crate::tags::{algorithm_of, needs_of};
 use hex::FromHexError;
 use std::alloc::{AllocError, Global};
@@ -50,7 +54,7 @@ fn read_body(
     line: &[u8],
 ) -> Result<Option<Entry>, AllocError>
     ensures entry { IfOk result (λ entry. option_map entry_value entry
-        ≡ body_entry algorithm spacing is_escaped line.now (tag_at line.now)) }
+        ≡ entry_after_mark algorithm spacing is_escaped line.now (algorithm_at_front line.now)) }
     ensures fits { IfOk result (λ entry. IfSome entry (λ e. length e.digest.items ≤ 64)) }
 {
     match algorithm_of(line) {
@@ -77,7 +81,7 @@ fn read_untagged(
     let Some(digest) = digest_of_digits(alloc, algorithm, digits)? else {
         return Ok(None);
     };
-    let Some((style, text)) = after_digits(spacing, rest) else {
+    let Some((style, text)) = name_after_digits(spacing, rest) else {
         return Ok(None);
     };
     entry_with(alloc, algorithm, is_escaped, digest, style, text)
@@ -91,20 +95,20 @@ fn read_tagged(
     text: &[u8],
 ) -> Result<Option<Entry>, AllocError>
     ensures entry { IfOk result (λ entry. option_map entry_value entry
-        ≡ tagged_entry algorithm is_escaped (needs_at text.now)) }
+        ≡ tagged_entry algorithm is_escaped (needs_at_front text.now)) }
     ensures fits { IfOk result (λ entry. IfSome entry (λ e. length e.digest.items ≤ 64)) }
 {
     let (needs, text) = needs_of(text);
     let Some((front, tail)) = split_at_last(text, b')') else {
         return Ok(None);
     };
-    let Some(digits) = after_equals(skip_blanks(tail)) else {
+    let Some(digits) = digits_after_equals(skip_blanks(tail)) else {
         return Ok(None);
     };
     let Some(digest) = digest_of_digits(alloc, algorithm, digits)? else {
         return Ok(None);
     };
-    let Some(name) = tagged_text(alloc, algorithm, digest.len(), front)? else {
+    let Some(name) = name_after_tag(alloc, algorithm, digest.len(), front)? else {
         return Ok(None);
     };
     entry_with(
@@ -132,7 +136,7 @@ fn entry_with(
         (record { style = style; text = text.now })) }
     ensures fits { IfOk result (λ entry. IfSome entry (λ e. length e.digest.items ≤ 64)) }
 {
-    let Some(name) = name_of(alloc, is_escaped, text)? else {
+    let Some(name) = name_of_text(alloc, is_escaped, text)? else {
         return Ok(None);
     };
     Ok(Some(Entry {
@@ -170,20 +174,20 @@ fn digest_of_digits(
 }
 
 // Returns the style and the text of the name after the digits.
-fn after_digits(spacing: Spacing, rest: &[u8]) -> Option<(Style, &[u8])>
+fn name_after_digits(spacing: Spacing, rest: &[u8]) -> Option<(Style, &[u8])>
     ensures { option_map (λ p. record { style = p.0; text = p.1.now }) result
-        ≡ after_digits spacing rest.now }
+        ≡ name_after_digits spacing rest.now }
 {
     match rest {
-        [b' ' | b'\t', rest @ ..] => after_blank(spacing, rest),
+        [b' ' | b'\t', rest @ ..] => name_after_blank(spacing, rest),
         _ => None,
     }
 }
 
 // Returns the style and the text of the name after the blank.
-fn after_blank(spacing: Spacing, rest: &[u8]) -> Option<(Style, &[u8])>
+fn name_after_blank(spacing: Spacing, rest: &[u8]) -> Option<(Style, &[u8])>
     ensures { option_map (λ p. record { style = p.0; text = p.1.now }) result
-        ≡ after_blank spacing rest.now }
+        ≡ name_after_blank spacing rest.now }
 {
     match (spacing, rest) {
         (Spacing::One, _) => Some((Style::Bare, rest)),
@@ -195,8 +199,8 @@ fn after_blank(spacing: Spacing, rest: &[u8]) -> Option<(Style, &[u8])>
 }
 
 // Returns the digits after an `=` and blanks.
-fn after_equals(text: &[u8]) -> Option<&[u8]>
-    ensures { option_map (λ rest. rest.now) result ≡ after_equals text.now }
+fn digits_after_equals(text: &[u8]) -> Option<&[u8]>
+    ensures { option_map (λ rest. rest.now) result ≡ digits_after_equals text.now }
 {
     match text {
         [b'=', rest @ ..] => Some(skip_blanks(rest)),
@@ -206,7 +210,7 @@ fn after_equals(text: &[u8]) -> Option<&[u8]>
 
 // Returns the text of the name in what follows the tag, up to the last parenthesis, for a digest
 // of this many bytes.
-fn tagged_text(
+fn name_after_tag(
     alloc: Global,
     algorithm: Algorithm,
     bytes: usize,
@@ -214,21 +218,21 @@ fn tagged_text(
 ) -> Result<Option<&[u8]>, AllocError>
     requires { bytes ≤ 64 }
     ensures { IfOk result
-        (λ name. option_map (λ n. n.now) name ≡ tagged_text algorithm bytes text.now) }
+        (λ name. option_map (λ n. n.now) name ≡ name_after_tag algorithm bytes text.now) }
 {
     let mut length = Vec::new(alloc);
     length.push(b'-')?;
     push_decimal(&mut length, 8 * bytes as u64)?;
     match after_prefix(length.as_slice(), text) {
-        Some(rest) => Ok(after_opening(rest)),
-        None if bytes == algorithm.max_bytes() => Ok(after_opening(text)),
+        Some(rest) => Ok(text_after_opening(rest)),
+        None if bytes == algorithm.max_bytes() => Ok(text_after_opening(text)),
         None => Ok(None),
     }
 }
 
 // Returns what follows an opening parenthesis, with one space before it or none.
-fn after_opening(text: &[u8]) -> Option<&[u8]>
-    ensures { option_map (λ rest. rest.now) result ≡ after_opening text.now }
+fn text_after_opening(text: &[u8]) -> Option<&[u8]>
+    ensures { option_map (λ rest. rest.now) result ≡ text_after_opening text.now }
 {
     match text {
         [b' ', rest @ ..] => after_parenthesis(rest),

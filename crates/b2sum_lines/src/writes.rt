@@ -2,8 +2,13 @@
 
 ghost use Rattle.std.specs.Prelude.{◌≡◌, ◌++◌, ◌*◌, ◌≤◌, length, IfOk, OnOk};
 ghost use Rattle.hex.specs.Hex.{encode_lower};
-ghost use Rattle.b2sum_lines.specs.ManifestLines.{entry_line, plain_line, body_line, needs_text};
-ghost use Rattle.b2sum_lines.specs.ManifestLines.{tag, tag_length, IsReadBack, IsReadByTag};
+ghost use Rattle.b2sum_lines.specs.ManifestLines.{
+  entry_line,
+  unescaped_line,
+  line_after_mark,
+  needs_text,
+};
+ghost use Rattle.b2sum_lines.specs.ManifestLines.{tag, tag_length_text, IsReadBack, IsReadByTag};
 ghost use Rattle.b2sum_lines.specs.EntryViews.{entry_value};
 
 use crate::entry::{Algorithm, Entry, Needs, Style};
@@ -48,7 +53,7 @@ fn line_of(alloc: Global, entry: &Entry) -> Result<Vec<u8>, AllocError>
 /// is `AllocError`, if an allocation fails. The digest has at most 64 bytes.
 pub fn write_plain_line(alloc: Global, entry: &Entry) -> Result<Vec<u8>, AllocError>
     requires { length entry.now.digest.items ≤ 64 }
-    ensures { IfOk result (λ line. line.items ≡ plain_line (entry_value entry.now)) }
+    ensures { IfOk result (λ line. line.items ≡ unescaped_line (entry_value entry.now)) }
 {
     let mut line = Vec::new(alloc);
     push_body(alloc, &mut line, entry, entry.name.as_slice())?;
@@ -64,7 +69,7 @@ fn push_body(
 ) -> Result<(), AllocError>
     requires { length entry.now.digest.items ≤ 64 }
     ensures { OnOk result (line.new.items ≡ line.old.items
-        ++ body_line entry.now.style entry.now.algorithm entry.now.digest.items text.now) }
+        ++ line_after_mark entry.now.style entry.now.algorithm entry.now.digest.items text.now) }
 {
     match entry.style {
         Style::Tagged(needs) => {
@@ -110,7 +115,7 @@ fn push_tag(
     requires { length entry.now.digest.items ≤ 64 }
     ensures { OnOk result (line.new.items ≡ line.old.items
         ++ (tag entry.now.algorithm ++ (needs_text needs
-        ++ tag_length entry.now.algorithm (length entry.now.digest.items)))) }
+        ++ tag_length_text entry.now.algorithm (length entry.now.digest.items)))) }
 {
     line.extend_from_slice(entry.algorithm.tag(alloc)?.as_slice())?;
     push_needs(line, needs)?;
@@ -136,7 +141,7 @@ fn push_needs(line: &mut Vec<u8>, needs: Needs) -> Result<(), AllocError>
 // Appends the length of the digest in a tag, in bits, unless it is the longest.
 fn push_tag_length(line: &mut Vec<u8>, algorithm: Algorithm, bytes: usize) -> Result<(), AllocError>
     requires { bytes ≤ 64 }
-    ensures { OnOk result (line.new.items ≡ line.old.items ++ tag_length algorithm bytes) }
+    ensures { OnOk result (line.new.items ≡ line.old.items ++ tag_length_text algorithm bytes) }
 {
     if bytes == algorithm.max_bytes() {
         return Ok(());

@@ -5,58 +5,60 @@ use Rattle.std.proofs.Common.{Bool, Option, Some, None, refl, sym, ap, ◌∙◌
 use Rattle.std.proofs.Common.{append-nil, append_assoc, length-append, rules}
 use Rattle.std.proofs.lemmas.List.{take_all}
 use Rattle.blake2_simd.specs.Family.{Family, blake2b, blake2s, block_bytes, key_bytes}
-use Rattle.blake2_compress.specs.Hash.{Tree, final, cut, chain, last_chain, block_count, key_size}
+use Rattle.blake2_compress.specs.Hash.{Tree, final, first_blocks, chain, last_chain, block_count}
+use Rattle.blake2_compress.specs.Hash.{key_size}
 use Rattle.blake2_compress.specs.Hash.{key_block, digest}
 use Rattle.blake2_compress.proofs.ByteSizes.{length-padded}
-use Rattle.blake2_compress.proofs.ParameterSizes.{key_bytes_fit}
+use Rattle.blake2_compress.proofs.ParameterSizes.{key_and_output_bytes-fit_byte}
 use Rattle.blake2_digest.specs.Blocks.{compressed_blocks, pending_bytes}
-use Rattle.blake2_digest.specs.States.{Meaning, Updated, Fresh, NodeSet}
-use Rattle.blake2_digest.proofs.Cutting.{handed_and_held, length-compressed_blocks}
+use Rattle.blake2_digest.specs.States.{Meaning, Updated, Fresh, LastNodeFlagSet}
+use Rattle.blake2_digest.proofs.Cutting.{compressed_and_pending-length, length-compressed_blocks}
 use Rattle.blake2_digest.proofs.Cutting.{length-pending_bytes}
 use Rattle.blake2.specs.Cores.{CoreState, node_parameters, absorbed, last_output}
 use Rattle.blake2.specs.States.{tail, State, future, started, count, start_count, meaning_by}
 use Rattle.blake2.specs.States.{unflagged, fresh, node_set, node_digest_of}
 use Rattle.blake2.specs.CoreLaws.{count-absorbed}
-use Rattle.blake2.proofs.Streaming.{tail_handed}
+use Rattle.blake2.proofs.Streaming.{tail-after_compressed_blocks}
 
 -- A state after it absorbs x: the core has absorbed what the buffer passes on.
-abbrev pub updated : Family → State → List ℕ → State
-updated f s x = record s {
+abbrev pub state_after_update : Family → State → List ℕ → State
+state_after_update f s x = record s {
   core = absorbed f s.core (compressed_blocks (block_bytes f) (s.pending ++ x));
   pending = pending_bytes (block_bytes f) (s.pending ++ x);
 }
 
 -- States with equal parts are equal.
-pub same_state : {s t : State} → s.core ≡ t.core → s.pending ≡ t.pending
+pub states-equal_by_parts : {s t : State} → s.core ≡ t.core → s.pending ≡ t.pending
     → s.start_block ≡ t.start_block → s ≡ t
-same_state core pending start_block =
+states-equal_by_parts core pending start_block =
     λ i. record { core = core i; pending = pending i; start_block = start_block i }
 
 -- ---- updates
 
-pub block_positive : (f : Family) → 0 < block_bytes f
-block_positive blake2b = omega arith
-block_positive blake2s = omega arith
+pub block_bytes-positive : (f : Family) → 0 < block_bytes f
+block_bytes-positive blake2b = omega arith
+block_bytes-positive blake2s = omega arith
 
 pub count-updated : (f : Family) (s : State) (x : List ℕ)
-    → count (updated f s x) ≡ count s + length x
+    → count (state_after_update f s x) ≡ count s + length x
 count-updated f s x =
     omega (
       arith,
       count-absorbed f s.core (compressed_blocks (block_bytes f) (s.pending ++ x)),
-      handed_and_held (block_bytes f) (s.pending ++ x) (block_positive f),
+      compressed_and_pending-length (block_bytes f) (s.pending ++ x) (block_bytes-positive f),
       length-append s.pending x,
     )
 
 -- An update satisfies its contract.
 pub Updated_by : {S : Type 0} (f : Family) (n : ℕ) (state_of : S → State) (old : S) (x : List ℕ)
     (new : S)
-    → state_of new ≡ updated f (state_of old) x → Updated (meaning_by f n state_of) old x new
+    → state_of new ≡ state_after_update f (state_of old) x
+    → Updated (meaning_by f n state_of) old x new
 unfolding future started absorbed
 Updated_by f n state_of old x new e = record {
   future = λ flag y.
       let s : State = state_of old in
-      let moved = tail_handed f (final flag) s.core (s.pending ++ x) y in
+      let moved = tail-after_compressed_blocks f (final flag) s.core (s.pending ++ x) y in
       let assoc = ap (λ (z : List ℕ). tail f s.core.h s.core.count z (final flag))
       (append_assoc s.pending x y) in
       ap (λ s. future f n s flag y) e ∙ ap (take n) (moved ∙ assoc);
@@ -72,16 +74,18 @@ Updated_by f n state_of old x new e = record {
 abbrev pub IsLazy : Family → State → Type 0
 IsLazy f s = s.core.count ≡ block_bytes f * (block_count f (count s) - 1)
 
-pub within-updated : (f : Family) (s : State) (x : List ℕ)
-    → length (updated f s x).pending ≤ block_bytes f
-within-updated f s x = length-pending_bytes (block_bytes f) (s.pending ++ x) (block_positive f)
+pub pending-within_block : (f : Family) (s : State) (x : List ℕ)
+    → length (state_after_update f s x).pending ≤ block_bytes f
+pending-within_block f s x =
+    length-pending_bytes (block_bytes f) (s.pending ++ x) (block_bytes-positive f)
 
-pub IsLazy-updated : (f : Family) (s : State) (x : List ℕ) → IsLazy f s → IsLazy f (updated f s x)
+pub IsLazy-updated : (f : Family) (s : State) (x : List ℕ) → IsLazy f s
+    → IsLazy f (state_after_update f s x)
 IsLazy-updated blake2b s x h =
     omega (
       arith,
       count-absorbed blake2b s.core (compressed_blocks 128 (s.pending ++ x)),
-      handed_and_held 128 (s.pending ++ x) (omega arith),
+      compressed_and_pending-length 128 (s.pending ++ x) (omega arith),
       length-append s.pending x,
       length-pending_bytes 128 (s.pending ++ x) (omega arith),
       length-compressed_blocks 128 (s.pending ++ x),
@@ -90,18 +94,24 @@ IsLazy-updated blake2s s x h =
     omega (
       arith,
       count-absorbed blake2s s.core (compressed_blocks 64 (s.pending ++ x)),
-      handed_and_held 64 (s.pending ++ x) (omega arith),
+      compressed_and_pending-length 64 (s.pending ++ x) (omega arith),
       length-append s.pending x,
       length-pending_bytes 64 (s.pending ++ x) (omega arith),
       length-compressed_blocks 64 (s.pending ++ x),
     )
 
 -- What holds for every hasher and MAC holds after an update.
-pub kept-updated : (f : Family) (s new : State) (x : List ℕ) → new ≡ updated f s x → IsLazy f s
+pub invariants-after_update : (f : Family) (s new : State) (x : List ℕ)
+    → new ≡ state_after_update f s x → IsLazy f s
     → count s + length x < 2 ^ 64
     → (length new.pending ≤ block_bytes f) × (count new < 2 ^ 64) × IsLazy f new
-kept-updated f s new x e one_left fits =
-    rw e (within-updated f s x, omega (arith, count-updated f s x), IsLazy-updated f s x one_left)
+invariants-after_update f s new x e one_left fits =
+    rw e (
+      pending-within_block f s x,
+      omega (arith, count-updated f s x),
+      IsLazy-updated f s x
+          one_left,
+    )
 
 -- ---- constructors
 
@@ -125,7 +135,8 @@ Fresh_by f n state_of salt persona key tree counted new counts e = record {
 -- Setting the flag satisfies its contract.
 pub NodeSet_by : {S : Type 0} (f : Family) (n : ℕ) (state_of : S → State) (old : S) (on : Bool)
     (new : S)
-    → state_of new ≡ node_set (state_of old) on → NodeSet (meaning_by f n state_of) old on new
+    → state_of new ≡ node_set (state_of old) on
+    → LastNodeFlagSet (meaning_by f n state_of) old on new
 unfolding future started
 NodeSet_by f n state_of old on new e = record {
   future = λ flag y. ap (λ s. future f n s flag y) e;
@@ -151,28 +162,29 @@ pub length-key_block_some : (f : Family) (key : List ℕ) → length key ≤ key
     → length (key_block f (Some key)) ≡ block_bytes f
 unfolding key_block
 length-key_block_some f key fits = length-padded (block_bytes f) key
-    (omega (arith, key_bytes_fit f))
+    (omega (arith, key_and_output_bytes-fit_byte f))
 
 -- ---- finalizations
 
-one_block : (f : Family) (n : ℕ) → n ≤ block_bytes f → block_count f n ≡ 1
-one_block blake2b n fits = omega arith
-one_block blake2s n fits = omega arith
+block_count-one_if_short : (f : Family) (n : ℕ) → n ≤ block_bytes f → block_count f n ≡ 1
+block_count-one_if_short blake2b n fits = omega arith
+block_count-one_if_short blake2s n fits = omega arith
 
 -- The pending bytes are the whole last block.
 pub last_chain-pending : (f : Family) (core : CoreState) (p : List ℕ) → length p ≤ block_bytes f
     → tail f core.h core.count (p ++ []) (final core.last_node) ≡ last_output f core p
-unfolding last_chain cut chain
+unfolding last_chain first_blocks chain
 last_chain-pending f core p fits =
-    let one : block_count f (length p) ≡ 1 = one_block f (length p) fits in
+    let one : block_count f (length p) ≡ 1 = block_count-one_if_short f (length p) fits in
     let whole : take (block_bytes f) p ≡ p = take_all (block_bytes f) p fits in
     rw (append-nil p, one, whole) refl
 
 -- A finalization satisfies its contract.
-pub future-nothing : (f : Family) (n : ℕ) (s : State) → length s.pending ≤ block_bytes f
+pub future-without_more_input : (f : Family) (n : ℕ) (s : State) → length s.pending ≤ block_bytes f
     → take n (last_output f s.core s.pending) ≡ future f n s s.core.last_node []
 unfolding future
-future-nothing f n s fits = ap (take n) (sym (last_chain-pending f s.core s.pending fits))
+future-without_more_input f n s fits =
+    ap (take n) (sym (last_chain-pending f s.core s.pending fits))
 
 -- The output of a state made of these parts.
 pub output_of_pending : (f : Family) (n : ℕ) (core : CoreState) (pending block : List ℕ)
@@ -180,4 +192,5 @@ pub output_of_pending : (f : Family) (n : ℕ) (core : CoreState) (pending block
     → future f n (record { core = core; pending = pending; start_block = block }) core.last_node []
     ≡ take n (last_output f core pending)
 output_of_pending f n core pending block fits =
-    sym (future-nothing f n (record { core = core; pending = pending; start_block = block }) fits)
+    sym (future-without_more_input f n
+    (record { core = core; pending = pending; start_block = block }) fits)

@@ -20,5 +20,5 @@ pub record AdmitsMac (f : Family) (key : Option (List ℕ)) (salt persona : List
   pub persona_fits : length persona ≤ salt_bytes f
 
 -- The key, the salt or the personalization has a length that the family does not accept.
-unfoldable pub IsRefused : Family → Option (List ℕ) → List ℕ → List ℕ → Type 0
-IsRefused f key salt persona = ¬ AdmitsMac f key salt persona
+unfoldable pub HasRefusedLength : Family → Option (List ℕ) → List ℕ → List ℕ → Type 0
+HasRefusedLength f key salt persona = ¬ AdmitsMac f key salt persona

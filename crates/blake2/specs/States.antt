@@ -4,7 +4,7 @@ use Rattle.blake2_simd.specs.Family.{Family}
 use Rattle.blake2_compress.specs.Hash.{Flags, final, bytes_of, last_chain, Parameters, key_block}
 use Rattle.blake2_compress.specs.Hash.{Input, Tree, digest, sequential}
 use Rattle.blake2.specs.Cores.{CoreState, core_made, core_restarted, core_node_set, core_wiped}
-pub use Rattle.blake2_digest.specs.States.{Fresh, Meaning, NodeSet, digest_after}
+pub use Rattle.blake2_digest.specs.States.{Fresh, Meaning, LastNodeFlagSet, digest_after}
 
 -- A state: the core, the pending bytes, and the start block, which comes before every message. The
 -- start block is the padded key block, or empty.

@@ -4,13 +4,13 @@ use Rattle.blake2_simd.specs.Family.{blake2b, blake2s, iv, sigma}
 use Rattle.blake2_compress.specs.declared.consts.TheConstants.{BLAKE2B_IV, BLAKE2S_IV, SIGMA}
 
 -- The IV of BLAKE2b.
-pub iv_b : BLAKE2B_IV ≡ iv blake2b
-iv_b = refl
+pub BLAKE2B_IV-is_iv : BLAKE2B_IV ≡ iv blake2b
+BLAKE2B_IV-is_iv = refl
 
 -- The IV of BLAKE2s.
-pub iv_s : BLAKE2S_IV ≡ iv blake2s
-iv_s = refl
+pub BLAKE2S_IV-is_iv : BLAKE2S_IV ≡ iv blake2s
+BLAKE2S_IV-is_iv = refl
 
 -- The rows of SIGMA.
-pub sigma_rows : SIGMA ≡ sigma
-sigma_rows = refl
+pub SIGMA-is_sigma : SIGMA ≡ sigma
+SIGMA-is_sigma = refl

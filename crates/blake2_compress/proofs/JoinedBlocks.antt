@@ -6,21 +6,22 @@ use Rattle.std.proofs.lemmas.List.{take-append-drop, length-take-le, replicate-a
 use Rattle.std.proofs.lemmas.Bool.{cases_lt}
 use Rattle.std.specs.List.{concat}
 use Rattle.blake2_simd.specs.Family.{Family, blake2b, blake2s, block_bytes}
-use Rattle.blake2_compress.specs.Hash.{padded, cut, block_count}
+use Rattle.blake2_compress.specs.Hash.{padded, first_blocks, block_count}
 
 -- Two joined lists are equal only if their parts are, if the first parts have one length.
-pub append_parts : (n : ℕ) (a b c d : List ℕ) → length a ≡ n → length c ≡ n → a ++ b ≡ c ++ d
+pub append-injective_by_length : (n : ℕ) (a b c d : List ℕ) → length a ≡ n → length c ≡ n
+    → a ++ b ≡ c ++ d
     → (a ≡ c) × (b ≡ d)
-append_parts n a b c d la lc h = (
+append-injective_by_length n a b c d la lc h = (
   sym (take_at a b n la) ∙ ap (take n) h ∙ take_at c d n lc,
   sym (drop_at a b n la) ∙ ap (drop n) h ∙ drop_at c d n lc,
 )
 
 -- A first block that the data does not fill, with zeros up to n bytes after it.
-short_block : (b n : ℕ) (z : List ℕ) → length z ≤ b
+padded-short_first_block : (b n : ℕ) (z : List ℕ) → length z ≤ b
     → padded b (take b z) ++ padded n (drop b z) ≡ padded (b + n) z
 unfolding padded
-short_block b n z short =
+padded-short_first_block b n z short =
     let all : take b z ≡ z = take_all b z short in
     let none : drop b z ≡ [] = drop_all b z short in
     let count : b - length z + (n - 0) ≡ b + n - length z = omega arith in
@@ -33,10 +34,10 @@ short_block b n z short =
     ) refl
 
 -- A first block that the data fills.
-full_block : (b n : ℕ) (z : List ℕ) → b ≤ length z
+padded-full_first_block : (b n : ℕ) (z : List ℕ) → b ≤ length z
     → padded b (take b z) ++ padded n (drop b z) ≡ padded (b + n) z
 unfolding padded
-full_block b n z whole =
+padded-full_first_block b n z whole =
     let full : b - length (take b z) ≡ 0 = omega (arith, length-take-le b z whole) in
     let left : n - length (drop b z) ≡ b + n - length z = omega (arith, length-drop b z) in
     rw (
@@ -49,31 +50,31 @@ full_block b n z whole =
     ) refl
 
 -- No bytes, with no zeros after them.
-padded_nothing : (n : ℕ) → n ≡ 0 → [] ≡ padded n []
+padded-empty : (n : ℕ) → n ≡ 0 → [] ≡ padded n []
 unfolding padded
-padded_nothing n none =
+padded-empty n none =
     let zeros : 0 ≡ n - 0 = omega arith in
     ap (λ (k : ℕ). replicate k 0) zeros
 
 -- The blocks, joined, are the data padded with zeros.
 pub concat-cut : (f : Family) (n : ℕ) (z : List ℕ) → length z ≤ n * block_bytes f
-    → concat (cut f n z) ≡ padded (n * block_bytes f) z
-unfolding cut
-concat-cut f zero [] h = padded_nothing (0 * block_bytes f) (omega arith)
+    → concat (first_blocks f n z) ≡ padded (n * block_bytes f) z
+unfolding first_blocks
+concat-cut f zero [] h = padded-empty (0 * block_bytes f) (omega arith)
 concat-cut f zero (x ∷ z) h = absurd (omega arith)
 concat-cut f (suc n) z h =
     let b : ℕ = block_bytes f in
     let more : b + n * b ≡ suc n * b = omega arith in
-    let rest : concat (cut f n (drop b z)) ≡ padded (n * b) (drop b z) =
+    let rest : concat (first_blocks f n (drop b z)) ≡ padded (n * b) (drop b z) =
     concat-cut f n (drop b z) (omega (arith, length-drop b z)) in
     let joined : padded b (take b z) ++ padded (n * b) (drop b z) ≡ padded (b + n * b) z =
     elim (cases_lt (length z) b) [
-      | inl short ↦ short_block b (n * b) z (omega arith)
-      | inr whole ↦ full_block b (n * b) z whole
+      | inl short ↦ padded-short_first_block b (n * b) z (omega arith)
+      | inr whole ↦ padded-full_first_block b (n * b) z whole
     ] in
     ap (λ (k : List ℕ). padded b (take b z) ++ k) rest ∙ joined ∙ ap (λ (k : ℕ). padded k z) more
 
 -- The blocks hold all counted bytes.
-pub block_count-fits : (f : Family) (m : ℕ) → m ≤ block_count f m * block_bytes f
-block_count-fits blake2b m = omega arith
-block_count-fits blake2s m = omega arith
+pub block_count-covers_data : (f : Family) (m : ℕ) → m ≤ block_count f m * block_bytes f
+block_count-covers_data blake2b m = omega arith
+block_count-covers_data blake2s m = omega arith

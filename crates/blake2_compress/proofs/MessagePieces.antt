@@ -5,32 +5,34 @@ use Rattle.std.proofs.Common.{length-drop, drop-drop}
 use Rattle.std.proofs.lemmas.List.{nil_from_length, take-append-drop, ext_get_or}
 use Rattle.std.proofs.lemmas.List.FromFn.{length-map-range_with_len, get_or-map-range_with_len}
 use Rattle.std.proofs.Math.Nat.{lt-div-mul-add, mul-le-mul_right}
-use Rattle.blake2_compress.specs.MessagePieces.{piece_count, piece, pieces, PiecesDetermine}
-use Rattle.blake2_compress.specs.MessagePieces.{NoPairDiffers}
+use Rattle.blake2_compress.specs.MessagePieces.{piece_count, piece, pieces, PiecesDetermineMessage}
+use Rattle.blake2_compress.specs.MessagePieces.{EqualIfNoPairDiffers}
 
 -- Piece 0 is the beginning.
 pub piece-zero : (size : ℕ) (text : List ℕ) → piece size text 0 ≡ take size text
 piece-zero size text = let start : 0 * size ≡ 0 = omega arith in rw start refl
 
 -- Piece i + 1 is piece i of what follows the beginning.
-pub piece-more : (size : ℕ) (text : List ℕ) (i : ℕ)
+pub piece-next : (size : ℕ) (text : List ℕ) (i : ℕ)
     → piece size text (i + 1) ≡ piece size (drop size text) i
-piece-more size text i =
+piece-next size text i =
     let start : (i + 1) * size ≡ size + i * size = omega arith in
     rw (start, ← drop-drop (i * size) size text) refl
 
 -- Two messages within `count` pieces are equal if no two pieces differ.
-texts-equal : (size count : ℕ) (x y : List ℕ) → length x ≤ count * size → length y ≤ count * size
+texts-equal_within_pieces : (size count : ℕ) (x y : List ℕ) → length x ≤ count * size
+    → length y ≤ count * size
     → ((i : ℕ) → i < count → piece size x i ≡ piece size y i) → x ≡ y
-texts-equal size zero x y short_x short_y same =
+texts-equal_within_pieces size zero x y short_x short_y same =
     nil_from_length x (omega arith) ∙ sym (nil_from_length y (omega arith))
-texts-equal size (suc count) x y short_x short_y same =
+texts-equal_within_pieces size (suc count) x y short_x short_y same =
     let first : take size x ≡ take size y = sym (piece-zero size x) ∙ same 0 (omega arith)
     ∙ piece-zero size y in
     let rest : drop size x ≡ drop size y =
-    texts-equal size count (drop size x) (drop size y) (omega (arith, length-drop size x))
+    texts-equal_within_pieces size count (drop size x) (drop size y)
+    (omega (arith, length-drop size x))
     (omega (arith, length-drop size y))
-    (λ i below. sym (piece-more size x i) ∙ same (i + 1) (omega arith) ∙ piece-more size y i) in
+    (λ i below. sym (piece-next size x i) ∙ same (i + 1) (omega arith) ∙ piece-next size y i) in
     sym (take-append-drop size x) ∙ (λ i. first i ++ rest i) ∙ take-append-drop size y
 
 -- A message does not have more bytes than its pieces.
@@ -48,7 +50,7 @@ texts-equal_by_pieces : (size : ℕ) (x y : List ℕ) → 0 < size
 texts-equal_by_pieces size x y some number same =
     let count_y : length y ≤ piece_count size (length x) * size =
     omega (arith, piece_count-covers size (length y) some, ap (λ (c : ℕ). c * size) number) in
-    texts-equal size (piece_count size (length x)) x y
+    texts-equal_within_pieces size (piece_count size (length x)) x y
     (piece_count-covers size (length x) some) count_y same
 
 -- ---- the list of the pieces
@@ -67,8 +69,8 @@ pieces-at size text i below =
     (omega arith)
 
 -- The two laws.
-pub pieces_determine : PiecesDetermine
-pieces_determine size x y some same =
+pub PiecesDetermineMessage-holds : PiecesDetermineMessage
+PiecesDetermineMessage-holds size x y some same =
     let number : piece_count size (length x) ≡ piece_count size (length y) =
     sym (length-pieces size x) ∙ ap length same ∙ length-pieces size y in
     texts-equal_by_pieces size x y some number
@@ -77,5 +79,5 @@ pieces_determine size x y some same =
     ∙ ap (λ (ps : List (List ℕ)). slice_index_or ps i []) same
     ∙ pieces-at size y i (omega (arith, number)))
 
-pub no_pair_differs : NoPairDiffers
-no_pair_differs xs ys number same = ext_get_or [] xs ys number same
+pub EqualIfNoPairDiffers-holds : EqualIfNoPairDiffers
+EqualIfNoPairDiffers-holds xs ys number same = ext_get_or [] xs ys number same

@@ -8,15 +8,15 @@ use borrow.Rule.Slice.PartMut.{put_mid}
 use Rattle.blake2_simd.specs.Family.{Family, salt_bytes, offset_bytes, reserved_bytes}
 use Rattle.blake2_compress.specs.Hash.{Fits, padded, Parameters, parameter_block, Tree}
 use Rattle.blake2_simd.proofs.Texts.{zeros_overwritten}
-use Rattle.blake2_compress.proofs.Padding.{padded-whole}
+use Rattle.blake2_compress.proofs.Padding.{padded-unchanged_at_length}
 use Rattle.blake2_compress.proofs.ParameterTexts.{padded-append_zeros}
 use Rattle.blake2_compress.proofs.ByteSizes.{length-padded}
 
 -- The list after k bytes are written at index i, over zeros that come after the first i bytes.
-pub written : (n i k : ℕ) (w y : List ℕ) → length w ≡ i → length y ≡ k → i + k ≤ n
+pub put_mid-into_padded : (n i k : ℕ) (w y : List ℕ) → length w ≡ i → length y ≡ k → i + k ≤ n
     → put_mid i k (padded n w) y ≡ padded n (w ++ y)
 unfolding padded
-written n i k w y at long fits =
+put_mid-into_padded n i k w y at long fits =
     let zeros : List ℕ = replicate (n - length w) 0 in
     let left : n - length w - k ≡ n - length (w ++ y) = omega (arith, length-append w y) in
     (λ j. take_at w zeros i at j ++ (y ++ drop k (drop_at w zeros i at j)))
@@ -25,24 +25,25 @@ written n i k w y at long fits =
     ∙ sym (append_assoc w y (replicate (n - length (w ++ y)) 0))
 
 -- A list that is written in this way, if the next field begins s bytes later.
-text_written : (n i k s : ℕ) (w x : List ℕ) → length w ≡ i → length x ≡ k → k ≤ s → i + s ≤ n
+put_mid-padded_field : (n i k s : ℕ) (w x : List ℕ) → length w ≡ i → length x ≡ k → k ≤ s
+    → i + s ≤ n
     → put_mid i k (padded n w) x ≡ padded n (w ++ padded s x)
 unfolding padded
-text_written n i k s w x at long fits room =
+put_mid-padded_field n i k s w x at long fits room =
     let zeros : List ℕ = replicate (s - length x) 0 in
-    written n i k w x at long (omega arith)
+    put_mid-into_padded n i k w x at long (omega arith)
     ∙ sym (padded-append_zeros n (w ++ x) (s - length x) (omega (arith, length-append w x)))
     ∙ ap (padded n) (append_assoc w x zeros)
 
 -- The fields of a block, of these lengths, one after the other.
-fields_written : (n o r s : ℕ) (a b c d salt persona : List ℕ) → length a ≡ 4 → length b ≡ 4
+put_mid-all_fields : (n o r s : ℕ) (a b c d salt persona : List ℕ) → length a ≡ 4 → length b ≡ 4
     → length c ≡ o → length d ≡ 2 → length salt ≤ s → length persona ≤ s → 8 + o + 2 + r + s + s ≡ n
     → put_mid (8 + o + 2 + r + s) (8 + o + 2 + r + s + length persona - (8 + o + 2 + r + s))
     (put_mid (8 + o + 2 + r) (8 + o + 2 + r + length salt - (8 + o + 2 + r))
     (put_mid (8 + o) (10 + o - (8 + o))
     (put_mid 8 (8 + o - 8) (put_mid 4 4 (a ++ drop 4 (replicate n 0)) b) c) d) salt) persona
     ≡ a ++ b ++ c ++ d ++ replicate r 0 ++ padded s salt ++ padded s persona
-fields_written n o r s a b c d salt persona la lb lc ld fits_salt fits_persona table =
+put_mid-all_fields n o r s a b c d salt persona la lb lc ld fits_salt fits_persona table =
     let t : ℕ = 8 + o + 2 + r in
     let inner : List ℕ = a ++ b ++ c ++ d in
     let front : List ℕ = inner ++ replicate r 0 in
@@ -66,24 +67,27 @@ fields_written n o r s a b c d salt persona la lb lc ld fits_salt fits_persona t
     let put_persona = λ (z : List ℕ). put_mid (t + s)
     (t + s + length persona - (t + s)) z persona in
     let with_leaf : put_leaf (a ++ drop 4 (replicate n 0)) ≡ padded n (a ++ b) =
-    ap put_leaf lengths ∙ written n 4 4 a b la lb (omega arith) in
+    ap put_leaf lengths ∙ put_mid-into_padded n 4 4 a b la lb (omega arith) in
     let with_offset = ap put_offset with_leaf
-    ∙ written n 8 (8 + o - 8) (a ++ b) c leaf_ends (omega arith) (omega arith) in
+    ∙ put_mid-into_padded n 8 (8 + o - 8) (a ++ b) c leaf_ends (omega arith) (omega arith) in
     let with_node = ap put_node with_offset
-    ∙ written n (8 + o) (10 + o - (8 + o)) (a ++ b ++ c) d node_ends (omega arith) (omega arith) in
+    ∙ put_mid-into_padded n (8 + o) (10 + o - (8 + o)) (a ++ b ++ c) d node_ends (omega arith)
+    (omega arith) in
     let with_zeros = with_node ∙ sym (padded-append_zeros n inner r (omega arith)) in
     let with_salt = ap put_salt with_zeros
-    ∙ text_written n t (t + length salt - t) s front salt front_ends (omega arith) (omega arith)
+    ∙ put_mid-padded_field n t (t + length salt - t) s front salt front_ends (omega arith)
+    (omega arith)
     (omega arith) in
     let with_persona = ap put_persona with_salt
-    ∙ text_written n (t + s) (t + s + length persona - (t + s)) s salted persona salted_ends
+    ∙ put_mid-padded_field n (t + s) (t + s + length persona - (t + s)) s salted persona salted_ends
     (omega arith) (omega arith) (omega arith) in
     with_persona
-    ∙ padded-whole n (salted ++ padded s persona)
+    ∙ padded-unchanged_at_length n (salted ++ padded s persona)
     (omega (arith, length-append salted (padded s persona)))
 
 -- The block, of fields of these lengths.
-pub block_written : (f : Family) (n o r s : ℕ) (p : Parameters) → offset_bytes f ≡ o → o ≤ 8
+pub put_mid-parameter_block : (f : Family) (n o r s : ℕ) (p : Parameters) → offset_bytes f ≡ o
+    → o ≤ 8
     → reserved_bytes f ≡ r → salt_bytes f ≡ s → 8 + o + 2 + r + s + s ≡ n → Fits f p
     → put_mid (8 + o + 2 + r + s) (8 + o + 2 + r + s + length p.persona - (8 + o + 2 + r + s))
     (put_mid (8 + o + 2 + r) (8 + o + 2 + r + length p.salt - (8 + o + 2 + r))
@@ -93,7 +97,7 @@ pub block_written : (f : Family) (n o r s : ℕ) (p : Parameters) → offset_byt
     (to_le_bytes w32 p.tree.leaf_length)) (take o (to_le_bytes w64 p.tree.node_offset)))
     (p.tree.node_depth ∷ p.tree.inner_length ∷ [])) p.salt) p.persona ≡ parameter_block f p
 unfolding parameter_block
-block_written f n o r s p offset room reserved salt table fits =
+put_mid-parameter_block f n o r s p offset room reserved salt table fits =
     let t : Tree = p.tree in
     let lengths : List ℕ = p.size ∷ p.key_size ∷ t.fanout ∷ t.depth ∷ [] in
     let leaf : List ℕ = to_le_bytes w32 t.leaf_length in
@@ -102,7 +106,7 @@ block_written f n o r s p offset room reserved salt table fits =
     let offset_is : o ≡ offset_bytes f = sym offset in
     let reserved_is : r ≡ reserved_bytes f = sym reserved in
     let texts_are : s ≡ salt_bytes f = sym salt in
-    fields_written n o r s lengths leaf (take o bytes) node p.salt p.persona refl refl
+    put_mid-all_fields n o r s lengths leaf (take o bytes) node p.salt p.persona refl refl
     (length-take-le o bytes room) refl (omega (arith, fits.salt))
     (omega (arith, fits.persona)) table
     ∙ (λ i. lengths ++ leaf ++ take (offset_is i) bytes ++ node ++ replicate (reserved_is i) 0

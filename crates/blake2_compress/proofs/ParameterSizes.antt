@@ -24,23 +24,24 @@ AreBytes-cons x xs lt a zero = lt
 AreBytes-cons x xs lt a (suc i) = a i
 
 -- The parameters fit, and their salt and personalization are bytes.
-pub record AreParameters (f : Family) (p : Parameters) : Type 0 where
+pub record AreValidParameters (f : Family) (p : Parameters) : Type 0 where
   pub fits : Fits f p
   pub salt_are : AreBytes p.salt
   pub persona_are : AreBytes p.persona
 
 -- A key is shorter than a block, and the lengths of a key and an output fit a byte.
-pub key_bytes_fit : (f : Family) → (key_bytes f ≤ block_bytes f) × (key_bytes f < 256)
+pub key_and_output_bytes-fit_byte : (f : Family) → (key_bytes f ≤ block_bytes f)
+    × (key_bytes f < 256)
     × (output_bytes f < 256)
-key_bytes_fit blake2b = (omega arith, omega arith, omega arith)
-key_bytes_fit blake2s = (omega arith, omega arith, omega arith)
+key_and_output_bytes-fit_byte blake2b = (omega arith, omega arith, omega arith)
+key_and_output_bytes-fit_byte blake2s = (omega arith, omega arith, omega arith)
 
 -- The parameter block consists of bytes.
-pub AreBytes-parameter_block : (f : Family) (p : Parameters) → AreParameters f p
+pub AreBytes-parameter_block : (f : Family) (p : Parameters) → AreValidParameters f p
     → AreBytes (parameter_block f p)
 unfolding parameter_block
 AreBytes-parameter_block f p h =
-    let limits = key_bytes_fit f in
+    let limits = key_and_output_bytes-fit_byte f in
     let t : Tree = p.tree in
     let fits = h.fits.tree in
     let depth : AreBytes (t.depth ∷ []) =

@@ -6,7 +6,7 @@ use Rattle.blake2_simd.specs.Family.{Family, salt_bytes, iv}
 use Rattle.blake2_compress.specs.Hash.{padded, Parameters, parameter_block, parameter_words, start}
 use Rattle.blake2_compress.specs.Hash.{words_of, bytes_of, xor_words, last_chain, Input, input_data}
 use Rattle.blake2_compress.specs.Hash.{input_flags, input_parameters, digest}
-use Rattle.blake2_compress.specs.DigestLaws.{ZerosLeaveDigests}
+use Rattle.blake2_compress.specs.DigestLaws.{TrailingZerosKeepDigest}
 
 -- Zeros after a list, within n bytes, are padding.
 pub padded-append_zeros : (n : ℕ) (x : List ℕ) (m : ℕ) → length x + m ≤ n
@@ -22,26 +22,26 @@ padded-append_zeros n x m fits =
     ∙ ap (λ (k : ℕ). replicate k 0) left)
 
 -- Salt and personalization are in the parameter block with their padding.
-pub parameter_block-texts : (f : Family) (p : Parameters) (salt persona : List ℕ)
+pub parameter_block-of_padded_texts : (f : Family) (p : Parameters) (salt persona : List ℕ)
     → padded (salt_bytes f) salt ≡ padded (salt_bytes f) p.salt
     → padded (salt_bytes f) persona ≡ padded (salt_bytes f) p.persona
     → parameter_block f (record p { salt = salt; persona = persona }) ≡ parameter_block f p
 unfolding parameter_block
-parameter_block-texts f p salt persona salts personas = rw (salts, personas) refl
+parameter_block-of_padded_texts f p salt persona salts personas = rw (salts, personas) refl
 
 -- The digest depends on them only with their padding.
-digest-texts : (f : Family) (size : ℕ) (a : Input) (salt persona : List ℕ)
+digest-of_padded_texts : (f : Family) (size : ℕ) (a : Input) (salt persona : List ℕ)
     → padded (salt_bytes f) salt ≡ padded (salt_bytes f) a.salt
     → padded (salt_bytes f) persona ≡ padded (salt_bytes f) a.persona
     → digest f size (record a { salt = salt; persona = persona }) ≡ digest f size a
 unfolding digest start parameter_words
-digest-texts f size a salt persona salts personas =
+digest-of_padded_texts f size a salt persona salts personas =
     ap (λ (block : List ℕ). take size (bytes_of f (last_chain f (xor_words (iv f) (words_of f 8
     block)) 0 (input_data f a) (input_flags a))))
-    (parameter_block-texts f (input_parameters size a) salt persona salts personas)
+    (parameter_block-of_padded_texts f (input_parameters size a) salt persona salts personas)
 
 -- The law: zeros after the salt and the personalization change no digest.
-pub zeros_leave_digests : (f : Family) → ZerosLeaveDigests f
-zeros_leave_digests f size a m n fits_salt fits_persona =
-    digest-texts f size a _ _ (padded-append_zeros (salt_bytes f) a.salt m fits_salt)
+pub TrailingZerosKeepDigest-holds : (f : Family) → TrailingZerosKeepDigest f
+TrailingZerosKeepDigest-holds f size a m n fits_salt fits_persona =
+    digest-of_padded_texts f size a _ _ (padded-append_zeros (salt_bytes f) a.salt m fits_salt)
     (padded-append_zeros (salt_bytes f) a.persona n fits_persona)

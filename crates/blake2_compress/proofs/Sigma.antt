@@ -7,18 +7,19 @@ use borrow.Author.Tests.{ltb-true}
 use Rattle.blake2_simd.specs.Family.{sigma}
 
 -- A row that passes the test has numbers below 16.
-row_below : (xs : List ℕ) → list_all (λ x. nat_lt x 16) xs ≡ true → (k : ℕ) → get_or xs k 0 < 16
-row_below [] h k = omega arith
-row_below (x ∷ xs) h zero = ltb-true x 16 (and_parts _ _ h).0
-row_below (x ∷ xs) h (suc k) = row_below xs (and_parts _ _ h).1 k
+row-below_16 : (xs : List ℕ) → list_all (λ x. nat_lt x 16) xs ≡ true → (k : ℕ) → get_or xs k 0 < 16
+row-below_16 [] h k = omega arith
+row-below_16 (x ∷ xs) h zero = ltb-true x 16 (and_parts _ _ h).0
+row-below_16 (x ∷ xs) h (suc k) = row-below_16 xs (and_parts _ _ h).1 k
 
 -- If a table passes the test, each of its rows has numbers below 16.
-rows_below : (xs : List (List ℕ)) → list_all (λ (row : List ℕ). list_all (λ x. nat_lt x 16) row) xs
+table-below_16 : (xs : List (List ℕ))
+    → list_all (λ (row : List ℕ). list_all (λ x. nat_lt x 16) row) xs
     ≡ true → (r k : ℕ) → get_or (get_or xs r []) k 0 < 16
-rows_below [] h r k = omega arith
-rows_below (x ∷ xs) h zero k = row_below x (and_parts _ _ h).0 k
-rows_below (x ∷ xs) h (suc r) k = rows_below xs (and_parts _ _ h).1 r k
+table-below_16 [] h r k = omega arith
+table-below_16 (x ∷ xs) h zero k = row-below_16 x (and_parts _ _ h).0 k
+table-below_16 (x ∷ xs) h (suc r) k = table-below_16 xs (and_parts _ _ h).1 r k
 
 -- SIGMA has numbers below 16.
-pub sigma_below : (r k : ℕ) → get_or (get_or sigma r []) k 0 < 16
-sigma_below = rows_below sigma refl
+pub sigma-below_16 : (r k : ℕ) → get_or (get_or sigma r []) k 0 < 16
+sigma-below_16 = table-below_16 sigma refl

@@ -8,12 +8,13 @@ use Rattle.blake2_simd.specs.Family.{blake2b, blake2s}
 use Rattle.blake2_simd.specs.Round.{mix, round}
 use Rattle.blake2_compress.specs.Hash.{words_of, bytes_of, xor_words, padded, after_rounds}
 use Rattle.blake2_compress.specs.Hash.{before_rounds, compress, parameter_block, parameter_words}
-use Rattle.blake2_compress.specs.Hash.{start, key_block, cut, chain, last_chain, Input, Tree}
+use Rattle.blake2_compress.specs.Hash.{start, key_block, first_blocks, chain, last_chain, Input}
+use Rattle.blake2_compress.specs.Hash.{Tree}
 use Rattle.blake2_compress.specs.Hash.{digest, sequential}
 
 -- An input without salt, personalization and key.
-abbrev no_key : List ℕ → Input
-no_key m = record {
+abbrev unkeyed_input : List ℕ → Input
+unkeyed_input m = record {
   salt = [];
   persona = [];
   key = None;
@@ -23,8 +24,8 @@ no_key m = record {
 }
 
 -- A key of the bytes 0 to 31 and the personalization `personal`.
-abbrev keyed_with_persona : Input
-keyed_with_persona = record {
+abbrev keyed_input_with_persona : Input
+keyed_input_with_persona = record {
   salt = [];
   persona = codes "personal";
   key = Some (range_with_len 0 32);
@@ -34,8 +35,8 @@ keyed_with_persona = record {
 }
 
 -- The message `abc` with the personalization `personal` and this salt.
-abbrev salted : List ℕ → Input
-salted salt = record {
+abbrev salted_input : List ℕ → Input
+salted_input salt = record {
   salt = salt;
   persona = codes "personal";
   key = None;
@@ -46,8 +47,8 @@ salted salt = record {
 
 -- The byte 42 n times, in the last node of its level in a tree of three levels: node 5 of the
 -- second, with inner digests of that length.
-abbrev last_node_of : ℕ → ℕ → Input
-last_node_of inner_length n =
+abbrev last_node_input : ℕ → ℕ → Input
+last_node_input inner_length n =
     let place : Tree = record {
       fanout = 2;
       depth = 3;
@@ -68,11 +69,11 @@ last_node_of inner_length n =
 -- The computation of a digest.
 computed : ℕ
 unfolding words_of bytes_of xor_words padded mix round after_rounds before_rounds compress
-    parameter_block parameter_words start key_block cut chain last_chain digest
+    parameter_block parameter_words start key_block first_blocks chain last_chain digest
 computed = 0
 
 -- BLAKE2b of `abc` (RFC 7693, appendix A).
-pub abc_b : digest blake2b 64 (no_key (codes "abc")) ≡
+pub abc_b : digest blake2b 64 (unkeyed_input (codes "abc")) ≡
     0xba ∷ 0x80 ∷ 0xa5 ∷ 0x3f ∷ 0x98 ∷ 0x1c ∷ 0x4d ∷ 0x0d ∷
     0x6a ∷ 0x27 ∷ 0x97 ∷ 0xb6 ∷ 0x9f ∷ 0x12 ∷ 0xf6 ∷ 0xe9 ∷
     0x4c ∷ 0x21 ∷ 0x2f ∷ 0x14 ∷ 0x68 ∷ 0x5a ∷ 0xc4 ∷ 0xb7 ∷
@@ -85,7 +86,7 @@ unfolding computed
 abc_b = refl
 
 -- BLAKE2s of `abc` (RFC 7693, appendix B).
-pub abc_s : digest blake2s 32 (no_key (codes "abc")) ≡
+pub abc_s : digest blake2s 32 (unkeyed_input (codes "abc")) ≡
     0x50 ∷ 0x8c ∷ 0x5e ∷ 0x8c ∷ 0x32 ∷ 0x7c ∷ 0x14 ∷ 0xe2 ∷
     0xe1 ∷ 0xa7 ∷ 0x2b ∷ 0xa3 ∷ 0x4e ∷ 0xeb ∷ 0x45 ∷ 0x2f ∷
     0x37 ∷ 0x45 ∷ 0x8b ∷ 0x20 ∷ 0x9e ∷ 0xd6 ∷ 0x3a ∷ 0x29 ∷
@@ -94,7 +95,7 @@ unfolding computed
 abc_s = refl
 
 -- BLAKE2b of no bytes: one block of zeros.
-pub nothing_b : digest blake2b 64 (no_key []) ≡
+pub nothing_b : digest blake2b 64 (unkeyed_input []) ≡
     0x78 ∷ 0x6a ∷ 0x02 ∷ 0xf7 ∷ 0x42 ∷ 0x01 ∷ 0x59 ∷ 0x03 ∷
     0xc6 ∷ 0xc6 ∷ 0xfd ∷ 0x85 ∷ 0x25 ∷ 0x52 ∷ 0xd2 ∷ 0x72 ∷
     0x91 ∷ 0x2f ∷ 0x47 ∷ 0x40 ∷ 0xe1 ∷ 0x58 ∷ 0x47 ∷ 0x61 ∷
@@ -107,7 +108,7 @@ unfolding computed
 nothing_b = refl
 
 -- BLAKE2s of no bytes: one block of zeros.
-pub nothing_s : digest blake2s 32 (no_key []) ≡
+pub nothing_s : digest blake2s 32 (unkeyed_input []) ≡
     0x69 ∷ 0x21 ∷ 0x7a ∷ 0x30 ∷ 0x79 ∷ 0x90 ∷ 0x80 ∷ 0x94 ∷
     0xe1 ∷ 0x11 ∷ 0x21 ∷ 0xd0 ∷ 0x42 ∷ 0x35 ∷ 0x4a ∷ 0x7c ∷
     0x1f ∷ 0x55 ∷ 0xb6 ∷ 0x48 ∷ 0x2c ∷ 0xa1 ∷ 0xa5 ∷ 0x1e ∷
@@ -116,7 +117,7 @@ unfolding computed
 nothing_s = refl
 
 -- BLAKE2b with a key and a personalization: the key block is the last.
-pub keyed_b : digest blake2b 64 keyed_with_persona ≡
+pub keyed_b : digest blake2b 64 keyed_input_with_persona ≡
     0x03 ∷ 0xde ∷ 0x3b ∷ 0x29 ∷ 0x5d ∷ 0xcf ∷ 0xc3 ∷ 0xb2 ∷
     0x5b ∷ 0x05 ∷ 0xab ∷ 0xb0 ∷ 0x9b ∷ 0xc9 ∷ 0x5f ∷ 0xe3 ∷
     0xe9 ∷ 0xff ∷ 0x30 ∷ 0x73 ∷ 0x63 ∷ 0x8b ∷ 0xad ∷ 0xc6 ∷
@@ -129,7 +130,7 @@ unfolding computed
 keyed_b = refl
 
 -- BLAKE2s with a key and a personalization: the key block is the last.
-pub keyed_s : digest blake2s 32 keyed_with_persona ≡
+pub keyed_s : digest blake2s 32 keyed_input_with_persona ≡
     0x25 ∷ 0xa4 ∷ 0xee ∷ 0x63 ∷ 0xb5 ∷ 0x94 ∷ 0xae ∷ 0xd3 ∷
     0xf8 ∷ 0x8a ∷ 0x97 ∷ 0x1e ∷ 0x18 ∷ 0x77 ∷ 0xef ∷ 0x70 ∷
     0x99 ∷ 0x53 ∷ 0x4f ∷ 0x90 ∷ 0x97 ∷ 0x29 ∷ 0x1f ∷ 0x88 ∷
@@ -138,7 +139,7 @@ unfolding computed
 keyed_s = refl
 
 -- BLAKE2s of 300 bytes: five blocks.
-pub many_s : digest blake2s 32 (no_key (replicate 300 42)) ≡
+pub many_s : digest blake2s 32 (unkeyed_input (replicate 300 42)) ≡
     0xb1 ∷ 0x8c ∷ 0x5a ∷ 0xbf ∷ 0x3e ∷ 0x48 ∷ 0x84 ∷ 0x3f ∷
     0xb7 ∷ 0xef ∷ 0xce ∷ 0x38 ∷ 0x26 ∷ 0x71 ∷ 0x0a ∷ 0xa6 ∷
     0x25 ∷ 0xd6 ∷ 0x0c ∷ 0xed ∷ 0x61 ∷ 0x02 ∷ 0x84 ∷ 0x9f ∷
@@ -147,7 +148,7 @@ unfolding computed
 many_s = refl
 
 -- BLAKE2b of 300 bytes: three blocks.
-pub many_b : digest blake2b 64 (no_key (replicate 300 42)) ≡
+pub many_b : digest blake2b 64 (unkeyed_input (replicate 300 42)) ≡
     0x77 ∷ 0xec ∷ 0xaf ∷ 0xa1 ∷ 0x1c ∷ 0x24 ∷ 0xfe ∷ 0x1f ∷
     0xe9 ∷ 0x9b ∷ 0x68 ∷ 0xce ∷ 0xe2 ∷ 0xea ∷ 0x44 ∷ 0xcf ∷
     0xcb ∷ 0x48 ∷ 0xde ∷ 0x57 ∷ 0x9a ∷ 0xec ∷ 0x5e ∷ 0x6e ∷
@@ -160,7 +161,7 @@ unfolding computed
 many_b = refl
 
 -- BLAKE2b with a salt that fills its field and a personalization that does not.
-pub salted_b : digest blake2b 64 (salted (codes "0123456789abcdef")) ≡
+pub salted_b : digest blake2b 64 (salted_input (codes "0123456789abcdef")) ≡
     0x05 ∷ 0x6f ∷ 0x4f ∷ 0xda ∷ 0xc1 ∷ 0x31 ∷ 0x6b ∷ 0x9e ∷
     0xbd ∷ 0xd8 ∷ 0xaf ∷ 0xa1 ∷ 0x3f ∷ 0x9c ∷ 0x13 ∷ 0xff ∷
     0x1a ∷ 0x97 ∷ 0x08 ∷ 0x94 ∷ 0x31 ∷ 0x21 ∷ 0xbc ∷ 0x84 ∷
@@ -173,7 +174,7 @@ unfolding computed
 salted_b = refl
 
 -- BLAKE2s with a salt that does not fill its field and a personalization that does.
-pub salted_s : digest blake2s 32 (salted (codes "012345")) ≡
+pub salted_s : digest blake2s 32 (salted_input (codes "012345")) ≡
     0xdd ∷ 0x21 ∷ 0xde ∷ 0x0b ∷ 0x2b ∷ 0x01 ∷ 0x94 ∷ 0x9c ∷
     0x19 ∷ 0xb4 ∷ 0xf2 ∷ 0x3b ∷ 0x08 ∷ 0xf5 ∷ 0xd8 ∷ 0x2a ∷
     0x39 ∷ 0x94 ∷ 0xd8 ∷ 0x38 ∷ 0xc8 ∷ 0x8c ∷ 0x7a ∷ 0xf6 ∷
@@ -182,7 +183,7 @@ unfolding computed
 salted_s = refl
 
 -- BLAKE2b of a last node: two blocks, of which only the last has its flag.
-pub last_node_b : digest blake2b 64 (last_node_of 64 129) ≡
+pub last_node_b : digest blake2b 64 (last_node_input 64 129) ≡
     0x84 ∷ 0xf6 ∷ 0x46 ∷ 0x6b ∷ 0x6e ∷ 0xf4 ∷ 0x27 ∷ 0xf9 ∷
     0x11 ∷ 0x27 ∷ 0x9c ∷ 0xc3 ∷ 0xf4 ∷ 0x5d ∷ 0x03 ∷ 0x82 ∷
     0x9b ∷ 0x8c ∷ 0xd6 ∷ 0xda ∷ 0xf5 ∷ 0x2b ∷ 0x9e ∷ 0x95 ∷
@@ -195,7 +196,7 @@ unfolding computed
 last_node_b = refl
 
 -- BLAKE2s of a last node: the last block has its flag.
-pub last_node_s : digest blake2s 32 (last_node_of 32 65) ≡
+pub last_node_s : digest blake2s 32 (last_node_input 32 65) ≡
     0xe8 ∷ 0xe1 ∷ 0x8a ∷ 0x36 ∷ 0x54 ∷ 0x5b ∷ 0x8c ∷ 0xa8 ∷
     0xf9 ∷ 0xc1 ∷ 0x0f ∷ 0xac ∷ 0xaf ∷ 0xe8 ∷ 0xc3 ∷ 0xe4 ∷
     0x42 ∷ 0x6e ∷ 0x6a ∷ 0x5b ∷ 0x70 ∷ 0xaa ∷ 0xcf ∷ 0x52 ∷

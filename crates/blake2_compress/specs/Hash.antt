@@ -173,14 +173,14 @@ abbrev pub block_count : Family → ℕ → ℕ
 block_count f n = chunk_count (block_bytes f) n
 
 -- The first n blocks of z, bb bytes each, with zeros after the end of z (3.3).
-unfoldable pub cut : Family → ℕ → List ℕ → List (List ℕ)
-cut f zero z = []
-cut f (suc n) z =
-    padded (block_bytes f) (take (block_bytes f) z) ∷ cut f n (drop (block_bytes f) z)
+unfoldable pub first_blocks : Family → ℕ → List ℕ → List (List ℕ)
+first_blocks f zero z = []
+first_blocks f (suc n) z =
+    padded (block_bytes f) (take (block_bytes f) z) ∷ first_blocks f n (drop (block_bytes f) z)
 
 -- d[0..dd-1], the blocks of z (3.3).
 abbrev pub blocks : Family → List ℕ → List (List ℕ)
-blocks f z = cut f (block_count f (length z)) z
+blocks f z = first_blocks f (block_count f (length z)) z
 
 -- ---- the run over the blocks (3.3)
 

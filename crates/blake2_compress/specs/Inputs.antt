@@ -23,7 +23,7 @@ pub record Accepts (f : Family) (a : Input) : Type 0 where
   pub message_bytes : AreBytes a.message
 
 -- Two inputs are the same, except for zeros at the end of a salt or a personalization.
-pub record Same (f : Family) (a b : Input) : Type 0 where
+pub record SameUpToTrailingZeros (f : Family) (a b : Input) : Type 0 where
   pub salt : padded (salt_bytes f) a.salt ≡ padded (salt_bytes f) b.salt
   pub persona : padded (salt_bytes f) a.persona ≡ padded (salt_bytes f) b.persona
   pub key : a.key ≡ b.key

@@ -18,13 +18,14 @@ abbrev pub pieces : ℕ → List ℕ → List (List ℕ)
 pieces size text = map (piece size text) (range_with_len 0 (piece_count size (length text)))
 
 -- The law that the pieces of a message determine it.
-abbrev pub PiecesDetermine : Type 0
-PiecesDetermine = (size : ℕ) (x y : List ℕ) → 0 < size → pieces size x ≡ pieces size y → x ≡ y
+abbrev pub PiecesDetermineMessage : Type 0
+PiecesDetermineMessage =
+    (size : ℕ) (x y : List ℕ) → 0 < size → pieces size x ≡ pieces size y → x ≡ y
 
 -- The law that two lists of pieces are equal if they have the same length and do not differ at any
 -- index.
-abbrev pub NoPairDiffers : Type 0
-NoPairDiffers = (xs ys : List (List ℕ)) → length xs ≡ length ys
+abbrev pub EqualIfNoPairDiffers : Type 0
+EqualIfNoPairDiffers = (xs ys : List (List ℕ)) → length xs ≡ length ys
     → ((i : ℕ) → i < length xs → slice_index_or xs i [] ≡ slice_index_or ys i []) → xs ≡ ys
 
 -- Index i is the first at which the pieces of two messages differ.

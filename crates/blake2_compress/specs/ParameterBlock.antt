@@ -6,8 +6,8 @@ use Rattle.blake2_compress.specs.Hash.{Parameters, Tree}
 
 -- The tree parameters in a parameter block, at the offsets of its fields (the BLAKE2 document,
 -- 2.8).
-abbrev pub tree_in : Family → List ℕ → Tree
-tree_in f block =
+abbrev pub tree_in_block : Family → List ℕ → Tree
+tree_in_block f block =
     let o = offset_bytes f in record {
       fanout = slice_index block 2;
       depth = slice_index block 3;
@@ -19,13 +19,13 @@ tree_in f block =
 
 -- All parameters in a parameter block, whatever its reserved bytes are (2.5; the BLAKE2 document,
 -- 2.8).
-abbrev pub parameters_in : Family → List ℕ → Parameters
-parameters_in f block =
+abbrev pub parameters_in_block : Family → List ℕ → Parameters
+parameters_in_block f block =
     let s = salt_bytes f in
     let texts = drop (8 + offset_bytes f + 2 + reserved_bytes f) block in record {
       size = slice_index block 0;
       key_size = slice_index block 1;
       salt = take s texts;
       persona = drop s texts;
-      tree = tree_in f block;
+      tree = tree_in_block f block;
     }

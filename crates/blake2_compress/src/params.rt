@@ -106,7 +106,7 @@ fn tree_in<const O: usize>(block: &[u8]) -> Tree
     requires offset { offset_bytes f ≡ O }
     requires offset_room { O ≤ 8 }
     requires fields { 8 + O + 2 ≤ length block.now }
-    ensures { tree_of result ≡ ParameterBlock.tree_in f block.now }
+    ensures { tree_of result ≡ ParameterBlock.tree_in_block f block.now }
 {
     Tree {
         fanout: block[2],

@@ -5,9 +5,9 @@ use Rattle.std.proofs.lemmas.List.{take_at, drop_at, drop_all}
 use borrow.Rule.Slice.PartMut.{put_mid}
 
 -- The end of a list is overwritten.
-pub put_mid-end : (at : ℕ) (a b d : List ℕ) → length a ≡ at → length b ≡ length d
+pub put_mid-overwrites_end : (at : ℕ) (a b d : List ℕ) → length a ≡ at → length b ≡ length d
     → put_mid at (length (a ++ d) - at) (a ++ d) b ≡ a ++ b
-put_mid-end at a b d size same =
+put_mid-overwrites_end at a b d size same =
     let behind : drop (length (a ++ d) - at) (drop at (a ++ d)) ≡ [] =
     ap (drop (length (a ++ d) - at)) (drop_at a d at size)
     ∙ drop_all (length (a ++ d) - at) d (omega (arith, length-append a d)) in

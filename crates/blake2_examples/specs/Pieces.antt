@@ -4,5 +4,5 @@ use Rattle.std.specs.Borrow.{Bor}
 use Rattle.std.specs.List.{flat_map}
 
 -- The message that consists of these pieces, in order.
-abbrev pub one_message : List (Bor (List ℕ)) → List ℕ
-one_message pieces = flat_map (λ (piece : Bor (List ℕ)). piece.now) pieces
+abbrev pub joined_pieces : List (Bor (List ℕ)) → List ℕ
+joined_pieces pieces = flat_map (λ (piece : Bor (List ℕ)). piece.now) pieces

@@ -3,7 +3,7 @@
 ghost use Rattle.std.specs.Prelude.{◌≡◌, ◌+◌, ◌*◌, ◌^◌, ◌<◌, ◌++◌, false, [], length, None};
 ghost use Rattle.blake2_simd.specs.Family.{blake2b, blake2s};
 ghost use Rattle.blake2.specs.States.{digest_of};
-ghost use Rattle.blake2_examples.specs.Pieces.{one_message};
+ghost use Rattle.blake2_examples.specs.Pieces.{joined_pieces};
 
 use blake2::digest::Digest;
 use blake2::{Blake2b512, Blake2s256};
@@ -21,8 +21,8 @@ pub fn digest_of_parts(first: &[u8], second: &[u8]) -> [u8; 64]
 
 /// Returns the digest of all pieces, absorbed as one message.
 pub fn digest_of_pieces(pieces: &[&[u8]]) -> [u8; 32]
-    requires { length (one_message pieces.now) < 2 ^ 64 }
-    ensures { result ≡ digest_of blake2s 32 [] [] None (one_message pieces.now) }
+    requires { length (joined_pieces pieces.now) < 2 ^ 64 }
+    ensures { result ≡ digest_of blake2s 32 [] [] None (joined_pieces pieces.now) }
 {
     let mut hasher = Blake2s256::new();
     for piece in pieces {

@@ -4,7 +4,7 @@
 ghost use Rattle.std.specs.Prelude.{◌≡◌, ◌↔◌, ◌+◌, ◌<◌, ◌^◌, List, ℕ, length, map, false, [], None};
 ghost use Rattle.std.specs.Prelude.{IfOk, IsSome, IfSome};
 ghost use Rattle.std.specs.Io.KnownBytes.{Appends};
-ghost use Rattle.blake2_streams.specs.Streams.{GivesAll, line_of};
+ghost use Rattle.blake2_streams.specs.Streams.{ReturnsAllBytes, line_of};
 ghost use Rattle.blake2_transcript.specs.Transcript.{entry};
 ghost use Rattle.blake2_transcript.specs.StepViews.{entries_of};
 ghost use Rattle.blake2_compress.specs.Hash.{steps};
@@ -24,7 +24,7 @@ pub fn print_digest<S: Source, K: Sink>(source: &mut S, sink: &mut K) -> Result<
     requires source { S.failed source.old ≡ false }
     requires sink { K.failed sink.old ≡ false }
     ensures { IfOk result (λ n. (bytes : List ℕ) × (length bytes ≡ n)
-        × GivesAll (S.left source.old) (S.left source.new) bytes
+        × ReturnsAllBytes (S.left source.old) (S.left source.new) bytes
         × Appends (K.held sink.old) (K.held sink.new)
         (line_of (digest_of blake2b 32 [] [] None bytes))) }
 {

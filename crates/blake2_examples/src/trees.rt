@@ -8,7 +8,8 @@ ghost use Rattle.blake2_compress.specs.Views.{tree_of};
 ghost use Rattle.blake2.specs.States.{node_digest_of};
 ghost use Rattle.blake2_tree.specs.TreeRoot.{tree_parameters, tree_root as root_of, leaf_count};
 ghost use Rattle.blake2_tree.specs.TreeRoot.{leaf_digests};
-ghost use Rattle.blake2_tree.specs.LeafRanges.{IsRange, AreWholeLeaves, TakesPlace, with_part};
+ghost use Rattle.blake2_tree.specs.LeafRanges.{IsLeafRange, AreWholeLeaves, ReplacesOldLeaves};
+ghost use Rattle.blake2_tree.specs.LeafRanges.{overwritten_from};
 
 use blake2::digest::{Digest, LastNode};
 use blake2::{Blake2b512, Tree};
@@ -123,18 +124,19 @@ pub fn root_by_digests(
 /// Returns the root of a message after one leaf has changed. `digests` must be those of the
 /// leaves before the change, and are then those after it. Only the new leaf is hashed.
 pub fn root_after_change(digests: &mut [u8], first: u64, ends: bool, leaf: &[u8]) -> [u8; 64]
-    requires range { IsRange 65536 first ends (length leaf.now) }
+    requires range { IsLeafRange 65536 first ends (length leaf.now) }
     requires one { length leaf.now ≤ 65536 }
     requires within { 64 * (first + 1) ≤ length digests.old }
     ensures root { (old : List ℕ) → digests.old ≡ leaf_digests (tree_parameters [] [] 65536) old
-        → TakesPlace 65536 (length old) first ends (length leaf.now)
+        → ReplacesOldLeaves 65536 (length old) first ends (length leaf.now)
         → result
-        ≡ root_of 64 (tree_parameters [] [] 65536) (with_part (first * 65536) leaf.now old) }
+        ≡ root_of 64 (tree_parameters [] [] 65536) (overwritten_from (first * 65536) leaf.now old) }
     ensures digests { (old : List ℕ)
         → digests.old ≡ leaf_digests (tree_parameters [] [] 65536) old
-        → TakesPlace 65536 (length old) first ends (length leaf.now)
+        → ReplacesOldLeaves 65536 (length old) first ends (length leaf.now)
         → digests.new
-        ≡ leaf_digests (tree_parameters [] [] 65536) (with_part (first * 65536) leaf.now old) }
+        ≡ leaf_digests (tree_parameters [] [] 65536)
+        (overwritten_from (first * 65536) leaf.now old) }
 {
     let at = 64 * first as usize;
     hash_leaves(

@@ -8,48 +8,50 @@ use Rattle.std.proofs.lemmas.List.{take-append-drop, take-take, drop-take, take_
 use Rattle.std.proofs.lemmas.List.{take_at, drop_at, drop-drop, length-drop}
 use Rattle.std.proofs.lemmas.Nat.{mul-le}
 use borrow.Rule.Slice.PartMut.{put_mid}
-use Rattle.blake2_simd.proofs.Lanes.{lanes}
+use Rattle.blake2_simd.proofs.Lanes.{tabulate}
 use Rattle.blake2_digest.specs.States.{Fresh, Meaning, Updated, digest_now}
 
 -- What a list maps to, one after the other.
-flat_is : {X : Type 0} (g : X → List ℕ) (xs : List X) → flat_map g xs ≡ concat (map g xs)
-flat_is g [] = refl
-flat_is g (x ∷ xs) = ap (λ l. g x ++ l) (flat_is g xs)
+flat_map-is_concat_map : {X : Type 0} (g : X → List ℕ) (xs : List X)
+    → flat_map g xs ≡ concat (map g xs)
+flat_map-is_concat_map g [] = refl
+flat_map-is_concat_map g (x ∷ xs) = ap (λ l. g x ++ l) (flat_map-is_concat_map g xs)
 
 -- The first n items of a list, each mapped.
-firsts : {X : Type 0} (n : ℕ) (g : X → List ℕ) (d : X) (xs : List X) → n ≤ length xs
-    → lanes n (λ j. g (slice_index_or xs j d)) ≡ map g (take n xs)
-firsts zero g d xs h = refl
-firsts (suc n) g d [] h = absurd (omega arith)
-firsts (suc n) g d (x ∷ xs) h = λ i. g x ∷ firsts n g d xs (omega arith) i
+lanes-are_mapped_prefix : {X : Type 0} (n : ℕ) (g : X → List ℕ) (d : X) (xs : List X) → n ≤ length xs
+    → tabulate n (λ j. g (slice_index_or xs j d)) ≡ map g (take n xs)
+lanes-are_mapped_prefix zero g d xs h = refl
+lanes-are_mapped_prefix (suc n) g d [] h = absurd (omega arith)
+lanes-are_mapped_prefix (suc n) g d (x ∷ xs) h = λ i. g x ∷ lanes-are_mapped_prefix n g d xs (omega arith) i
 
 -- The digests of the first n messages, cut to k bytes each, are written.
-pub lanes_written : {X : Type 0} (n k : ℕ) (g : X → List ℕ) (d : X) (xs : List X)
+pub written_lanes-are_first_digests : {X : Type 0} (n k : ℕ) (g : X → List ℕ) (d : X) (xs : List X)
     (digests : List (List ℕ)) (was : List ℕ) {new : List ℕ} → n ≤ length xs → length digests ≡ n
-    → map (take k) digests ≡ lanes n (λ j. g (slice_index_or xs j d))
+    → map (take k) digests ≡ tabulate n (λ j. g (slice_index_or xs j d))
     → new ≡ flat_map (take k) digests ++ drop (length digests * k) was
     → new ≡ flat_map g (take n xs) ++ drop (n * k) was
-lanes_written n k g d xs digests was enough long are written =
+written_lanes-are_first_digests n k g d xs digests was enough long are written =
     let same : flat_map (take k) digests ≡ flat_map g (take n xs) =
-    flat_is (take k) digests ∙ ap concat (are ∙ firsts n g d xs enough)
-    ∙ sym (flat_is g (take n xs)) in
+    flat_map-is_concat_map (take k) digests ∙ ap concat
+    (are ∙ lanes-are_mapped_prefix n g d xs enough)
+    ∙ sym (flat_map-is_concat_map g (take n xs)) in
     written ∙ (λ i. same i ++ drop (long i * k) was)
 
 -- The first items, and then the next.
-flat_more : {X : Type 0} (g : X → List ℕ) (n m : ℕ) (xs : List X)
+flat_map-take_add : {X : Type 0} (g : X → List ℕ) (n m : ℕ) (xs : List X)
     → flat_map g (take (n + m) xs) ≡ flat_map g (take n xs) ++ flat_map g (take m (drop n xs))
-flat_more g n m xs =
+flat_map-take_add g n m xs =
     let split : take (n + m) xs ≡ take n xs ++ take m (drop n xs) =
     sym (take-append-drop n (take (n + m) xs))
     ∙ ap₂ (λ a b. a ++ b) (take-take n (n + m) xs (omega arith)) (drop-take n m xs) in
     ap (flat_map g) split ∙ flat_map-append g (take n xs) (take m (drop n xs))
 
 -- What is written after the first a bytes, if these are known and the rest is as it was.
-put_more : (a m : ℕ) (was xs ys front more : List ℕ) → a ≤ length was
+put_mid-after_written_prefix : (a m : ℕ) (was xs ys front more : List ℕ) → a ≤ length was
     → length xs ≡ length was → xs ≡ front ++ drop a was
     → ys ≡ more ++ drop m (take (length xs - a) (drop a xs))
     → put_mid a (length xs - a) xs ys ≡ (front ++ more) ++ drop (a + m) was
-put_more a m was xs ys front more fits same begun e =
+put_mid-after_written_prefix a m was xs ys front more fits same begun e =
     let long : length front ≡ a =
     omega (
       arith,
@@ -72,31 +74,33 @@ put_more a m was xs ys front more fits same begun e =
     ∙ sym (append_assoc front more (drop (a + m) was))
 
 -- The digests of k more messages are written after those of the first ones, n bytes each.
-pub more_written : {X : Type 0} (g : X → List ℕ) (n done k : ℕ) (xs : List X)
+pub next_digests-are_written : {X : Type 0} (g : X → List ℕ) (n done k : ℕ) (xs : List X)
     (was out new : List ℕ) → done ≤ length xs → length was ≡ length xs * n
     → length out ≡ length was → out ≡ flat_map g (take done xs) ++ drop (done * n) was
     → new ≡ flat_map g (take k (take (length xs - done) (drop done xs)))
     ++ drop (k * n) (take (length out - done * n) (drop (done * n) out))
     → put_mid (done * n) (length out - done * n) out new
     ≡ flat_map g (take (done + k) xs) ++ drop ((done + k) * n) was
-more_written g n done k xs was out new within room long begun written =
+next_digests-are_written g n done k xs was out new within room long begun written =
     let fits : done * n ≤ length was =
     omega (arith, room, mul-le done n (length xs) n within (omega arith)) in
     let whole : take (length xs - done) (drop done xs) ≡ drop done xs =
     take_all (length xs - done) (drop done xs) (omega (arith, length-drop done xs)) in
     let at : done * n + k * n ≡ (done + k) * n = omega arith in
-    put_more (done * n) (k * n) was out new (flat_map g (take done xs))
+    put_mid-after_written_prefix (done * n) (k * n) was out new (flat_map g (take done xs))
     (flat_map g (take k (drop done xs))) fits long begun
     (written ∙ ap (λ l. flat_map g (take k l)
     ++ drop (k * n) (take (length out - done * n) (drop (done * n) out))) whole)
-    ∙ ap₂ (λ l m. l ++ drop m was) (sym (flat_more g done k xs)) at
+    ∙ ap₂ (λ l m. l ++ drop m was) (sym (flat_map-take_add g done k xs)) at
 
 -- The digest of a message is written in all bytes: that of a new state which has absorbed it.
-pub whole_written : {S : Type 0} (m : Meaning S) (digest : Bool → List ℕ → List ℕ)
+pub written_digest-is_digest_of_input : {S : Type 0} (m : Meaning S)
+    (digest : Bool → List ℕ → List ℕ)
     (count size : ℕ) (made after : S) (input was : List ℕ) {new : List ℕ}
     → Fresh m digest count made → Updated m made input after → size ≡ length was
     → new ≡ digest_now m after ++ drop size was → new ≡ digest false input
-whole_written m digest count size made after input was fresh updated long written =
+written_digest-is_digest_of_input m digest count size made after input was fresh updated long
+    written =
     let flag : m.last_node after ≡ false = updated.last_node ∙ fresh.last_node in
     let now : digest_now m after ≡ digest false input =
     ap (λ (on : Bool). m.future after on []) flag ∙ updated.future false []

@@ -8,16 +8,19 @@ ghost use Rattle.blake2.specs.States.{digest_of, node_digest_of};
 ghost use Rattle.blake2_compress.specs.Hash.{AdmitsTree, data_bytes, parameters_of, sequential};
 ghost use Rattle.blake2_compress.specs.Inputs.{KeyFits};
 ghost use Rattle.blake2_compress.specs.Views.{key_of, tree_of};
-ghost use Rattle.blake2_digest.specs.States.{Fresh, NodeSet, Updated, StartedAgain, digest_now};
-ghost use Rattle.blake2_state.specs.ConstructorArguments.{given_key, given_count, digest_given};
+ghost use Rattle.blake2_digest.specs.States.{Fresh, LastNodeFlagSet, Updated, ResetToStart};
+ghost use Rattle.blake2_digest.specs.States.{digest_now};
+ghost use Rattle.blake2_state.specs.ConstructorArguments.{key_unless_empty, counted_key_bytes};
+ghost use Rattle.blake2_state.specs.ConstructorArguments.{digest_given};
 ghost use Rattle.blake2_state.specs.ConstructorArguments.{AdmitsState};
 ghost use Rattle.blake2_state.specs.ConstructorArguments.{parameters_given};
 ghost use Rattle.blake2_state.specs.Blake2b.{IsKeyed, IsReady, IsReadyFor, key_length, meaning};
 ghost use Rattle.blake2_state.specs.Blake2b.{zeros};
-ghost use Rattle.blake2_state.specs.RawParameterBlocks.{block_digest, AdmitsBlock};
+ghost use Rattle.blake2_state.specs.RawParameterBlocks.{digest_by_parameter_block};
+ghost use Rattle.blake2_state.specs.RawParameterBlocks.{AdmitsParameterBlock};
 ghost use Rattle.blake2_state.specs.States.{is_on};
-ghost use Rattle.blake2_ffi.specs.Status.{Returns};
-ghost use Rattle.blake2_ffi.specs.TreeArguments.{given_tree};
+ghost use Rattle.blake2_ffi.specs.Status.{IsStatusOf};
+ghost use Rattle.blake2_ffi.specs.TreeArguments.{tree_of_node_parameters};
 
 mod many;
 
@@ -79,11 +82,11 @@ fn write_digest(out: &mut [u8], input: &[u8], key: Option<&[u8]>)
 #[inline(never)]
 fn write_keyed(out: &mut [u8], input: &[u8], key: &[u8]) -> i32
     requires { 1 ≤ length key.now }
-    ensures status { Returns result
+    ensures status { IsStatusOf result
         (AdmitsState blake2b (parameters_of (length out.old) (length key.now) [] [])
-        × (given_count blake2b key.now + length input.now < 2 ^ 64)) }
+        × (counted_key_bytes blake2b key.now + length input.now < 2 ^ 64)) }
     ensures digest { result ≡ pos 0
-        → out.new ≡ digest_of blake2b (length out.old) [] [] (given_key key.now) input.now }
+        → out.new ≡ digest_of blake2b (length out.old) [] [] (key_unless_empty key.now) input.now }
     ensures nothing { result ≡ negsuc 0 → out.new ≡ out.old }
 {
     if !admits(out.len(), key.len()) {
@@ -102,11 +105,11 @@ fn write_keyed(out: &mut [u8], input: &[u8], key: &[u8]) -> i32
 /// input and the key's block have 2^64 bytes or more; nothing is then written.
 #[unsafe(no_mangle)]
 pub extern "C" fn vulfsjor_ffi_blake2b(out: &mut [u8], input: &[u8], key: &[u8]) -> i32
-    ensures status { Returns result
+    ensures status { IsStatusOf result
         (AdmitsState blake2b (parameters_of (length out.old) (length key.now) [] [])
-        × (given_count blake2b key.now + length input.now < 2 ^ 64)) }
+        × (counted_key_bytes blake2b key.now + length input.now < 2 ^ 64)) }
     ensures digest { result ≡ pos 0
-        → out.new ≡ digest_of blake2b (length out.old) [] [] (given_key key.now) input.now }
+        → out.new ≡ digest_of blake2b (length out.old) [] [] (key_unless_empty key.now) input.now }
     ensures nothing { result ≡ negsuc 0 → out.new ≡ out.old }
 {
     if !key.is_empty() {
@@ -130,13 +133,13 @@ pub extern "C" fn vulfsjor_ffi_blake2b(out: &mut [u8], input: &[u8], key: &[u8])
 #[inline(never)]
 fn initialize(state: &mut State, given: &StateParameters<'_>, tree: &Tree) -> i32
     requires tree { AdmitsTree blake2b (tree_of tree.now) }
-    ensures status { Returns result
+    ensures status { IsStatusOf result
         (AdmitsState blake2b (parameters_given given.now (tree_of tree.now))) }
     ensures ready { result ≡ pos 0 → IsReadyFor given.now.output_size state.new }
     ensures key { result ≡ pos 0 → key_length state.new ≡ length given.now.key.now }
     ensures fresh { result ≡ pos 0
         → Fresh meaning (digest_given blake2b given.now (tree_of tree.now))
-        (given_count blake2b given.now.key.now) state.new }
+        (counted_key_bytes blake2b given.now.key.now) state.new }
     ensures zeros { result ≡ negsuc 0 → state.new ≡ zeros }
 {
     let Ok(made) = State::init_tree(given, tree) else {
@@ -158,13 +161,14 @@ pub extern "C" fn vulfsjor_ffi_blake2b_init_salt_personal(
     salt: &[u8],
     persona: &[u8],
 ) -> i32
-    ensures status { Returns result
+    ensures status { IsStatusOf result
         (AdmitsState blake2b (parameters_of output_size (length key.now) salt.now persona.now)) }
     ensures ready { result ≡ pos 0 → IsReadyFor output_size state.new }
     ensures key { result ≡ pos 0 → key_length state.new ≡ length key.now }
     ensures fresh { result ≡ pos 0 → Fresh meaning
-        (node_digest_of blake2b output_size salt.now persona.now (given_key key.now) sequential)
-        (given_count blake2b key.now) state.new }
+        (node_digest_of blake2b output_size salt.now persona.now (key_unless_empty key.now)
+        sequential)
+        (counted_key_bytes blake2b key.now) state.new }
     ensures zeros { result ≡ negsuc 0 → state.new ≡ zeros }
 {
     let given = StateParameters {
@@ -189,14 +193,14 @@ pub extern "C" fn vulfsjor_ffi_blake2b_init_key(
     output_size: usize,
     key: &[u8],
 ) -> i32
-    ensures status { Returns result
+    ensures status { IsStatusOf result
         ((1 ≤ length key.now)
         × AdmitsState blake2b (parameters_of output_size (length key.now) [] [])) }
     ensures ready { result ≡ pos 0 → IsReadyFor output_size state.new }
     ensures key { result ≡ pos 0 → key_length state.new ≡ length key.now }
     ensures fresh { result ≡ pos 0 → Fresh meaning
-        (node_digest_of blake2b output_size [] [] (given_key key.now) sequential)
-        (given_count blake2b key.now) state.new }
+        (node_digest_of blake2b output_size [] [] (key_unless_empty key.now) sequential)
+        (counted_key_bytes blake2b key.now) state.new }
     ensures zeros { result ≡ negsuc 0 → state.new ≡ zeros }
 {
     if key.is_empty() {
@@ -219,15 +223,15 @@ pub extern "C" fn vulfsjor_ffi_blake2b_init_tree(
     persona: &[u8],
     tree: &NodeParameters,
 ) -> i32
-    ensures status { Returns result (AdmitsState blake2b
+    ensures status { IsStatusOf result (AdmitsState blake2b
         (node_parameters output_size (length key.now) salt.now persona.now
-        (given_tree tree.now))) }
+        (tree_of_node_parameters tree.now))) }
     ensures ready { result ≡ pos 0 → IsReadyFor output_size state.new }
     ensures key { result ≡ pos 0 → key_length state.new ≡ length key.now }
     ensures fresh { result ≡ pos 0 → Fresh meaning
-        (node_digest_of blake2b output_size salt.now persona.now (given_key key.now)
-        (given_tree tree.now))
-        (given_count blake2b key.now) state.new }
+        (node_digest_of blake2b output_size salt.now persona.now (key_unless_empty key.now)
+        (tree_of_node_parameters tree.now))
+        (counted_key_bytes blake2b key.now) state.new }
     ensures zeros { result ≡ negsuc 0 → state.new ≡ zeros }
 {
     let tree = tree.to_tree();
@@ -255,11 +259,11 @@ pub extern "C" fn vulfsjor_ffi_blake2b_init_tree(
 /// state is then zeroed.
 #[unsafe(no_mangle)]
 pub extern "C" fn vulfsjor_ffi_blake2b_init_param(state: &mut State, block: &[u8]) -> i32
-    ensures status { Returns result (AdmitsBlock blake2b block.now) }
+    ensures status { IsStatusOf result (AdmitsParameterBlock blake2b block.now) }
     ensures ready { result ≡ pos 0 → IsReadyFor (slice_index block.now 0) state.new }
     ensures key { result ≡ pos 0 → key_length state.new ≡ slice_index block.now 1 }
     ensures fresh { result ≡ pos 0
-        → Fresh meaning (block_digest blake2b block.now) 0 state.new }
+        → Fresh meaning (digest_by_parameter_block blake2b block.now) 0 state.new }
     ensures zeros { result ≡ negsuc 0 → state.new ≡ zeros }
 {
     let Ok(made) = State::init_param(block) else {
@@ -300,7 +304,7 @@ fn update_scrubbed(state: &mut State, input: &[u8])
 /// ready or its count would reach 2^64; the state then stays as it is.
 #[unsafe(no_mangle)]
 pub extern "C" fn vulfsjor_ffi_blake2b_update(state: &mut State, input: &[u8]) -> i32
-    ensures status { Returns result
+    ensures status { IsStatusOf result
         (IsReady state.old × (meaning.count state.old + length input.now < 2 ^ 64)) }
     ensures ready { result ≡ pos 0 → IsReadyFor state.old.output_size state.new }
     ensures key { result ≡ pos 0 → key_length state.new ≡ key_length state.old }
@@ -339,7 +343,7 @@ fn finalize(state: &mut State, out: &mut [u8])
 /// and the state stays as it is.
 #[unsafe(no_mangle)]
 pub extern "C" fn vulfsjor_ffi_blake2b_final(state: &mut State, out: &mut [u8]) -> i32
-    ensures status { Returns result
+    ensures status { IsStatusOf result
         (IsReady state.old × (length out.old ≡ state.old.output_size)) }
     ensures output { result ≡ pos 0 → out.new ≡ digest_now meaning state.old }
     ensures wiped { result ≡ pos 0 → state.new ≡ zeros }
@@ -372,7 +376,7 @@ fn is_digest_of(state: &State, tag: &[u8]) -> bool
 /// wiped, and any other stays as it is: anybody can make the digest of a state without a key.
 #[unsafe(no_mangle)]
 pub extern "C" fn vulfsjor_ffi_blake2b_verify(state: &mut State, tag: &[u8]) -> i32
-    ensures status { Returns result (IsReady state.old × IsKeyed state.old
+    ensures status { IsStatusOf result (IsReady state.old × IsKeyed state.old
         × (tag.now ≡ digest_now meaning state.old)) }
     ensures wiped { IsReady state.old → IsKeyed state.old → state.new ≡ zeros }
     ensures same { ¬ (IsReady state.old × IsKeyed state.old) → state.new ≡ state.old }
@@ -394,10 +398,10 @@ pub extern "C" fn vulfsjor_ffi_blake2b_verify(state: &mut State, tag: &[u8]) -> 
 /// 0, or -1 if the state is not ready; the state then stays as it is.
 #[unsafe(no_mangle)]
 pub extern "C" fn vulfsjor_ffi_blake2b_set_last_node(state: &mut State, on: u32) -> i32
-    ensures status { Returns result (IsReady state.old) }
+    ensures status { IsStatusOf result (IsReady state.old) }
     ensures ready { result ≡ pos 0 → IsReadyFor state.old.output_size state.new }
     ensures key { result ≡ pos 0 → key_length state.new ≡ key_length state.old }
-    ensures set { result ≡ pos 0 → NodeSet meaning state.old (is_on on) state.new }
+    ensures set { result ≡ pos 0 → LastNodeFlagSet meaning state.old (is_on on) state.new }
     ensures same { result ≡ negsuc 0 → state.new ≡ state.old }
 {
     if !state.is_ready() {
@@ -412,10 +416,10 @@ pub extern "C" fn vulfsjor_ffi_blake2b_set_last_node(state: &mut State, on: u32)
 /// stays as it is.
 #[unsafe(no_mangle)]
 pub extern "C" fn vulfsjor_ffi_blake2b_reset(state: &mut State) -> i32
-    ensures status { Returns result (IsReady state.old) }
+    ensures status { IsStatusOf result (IsReady state.old) }
     ensures ready { result ≡ pos 0 → IsReadyFor state.old.output_size state.new }
     ensures key { result ≡ pos 0 → key_length state.new ≡ key_length state.old }
-    ensures reset { result ≡ pos 0 → StartedAgain meaning state.old state.new }
+    ensures reset { result ≡ pos 0 → ResetToStart meaning state.old state.new }
     ensures same { result ≡ negsuc 0 → state.new ≡ state.old }
 {
     if !state.is_ready() {

@@ -3,12 +3,12 @@
 ghost use Rattle.std.specs.Prelude.{◌≡◌, ◌↔◌, ◌+◌, ◌-◌, ◌^◌, ◌<◌, ◌≤◌, [], length};
 ghost use Rattle.std.specs.Prelude.{pos, negsuc, IsTrue};
 ghost use Rattle.blake2.specs.Family.{blake2b};
-ghost use Rattle.blake2_digest.specs.States.{Fresh, Updated, StartedAgain, digest_now};
+ghost use Rattle.blake2_digest.specs.States.{Fresh, Updated, ResetToStart, digest_now};
 ghost use Rattle.blake2_parallel.specs.Blake2bp.{IsReady, IsReadyFor, meaning, zeros};
 ghost use Rattle.blake2_parallel.specs.Parallel.{AdmitsParallel, digests, parallel_key_count};
 ghost use Rattle.blake2_parallel.specs.Parallel.{parallel_digest};
 ghost use Rattle.blake2_parallel.specs.Parallel.{settings};
-ghost use Rattle.blake2_ffi.specs.Status.{Returns};
+ghost use Rattle.blake2_ffi.specs.Status.{IsStatusOf};
 
 use blake2_digest::scrub_stack;
 use blake2_parallel::blake2bp::State;
@@ -35,7 +35,7 @@ fn has_key_pending(state: &State) -> bool {
 // key.
 #[inline(never)]
 fn write(out: &mut [u8], input: &[u8], key: &[u8]) -> i32
-    ensures status { Returns result
+    ensures status { IsStatusOf result
         (AdmitsParallel blake2b (settings (length out.old) key.now [] [])
         × (parallel_key_count blake2b key.now + length input.now < 2 ^ 64)) }
     ensures digest { result ≡ pos 0
@@ -61,7 +61,7 @@ fn write(out: &mut [u8], input: &[u8], key: &[u8]) -> i32
 /// is then written.
 #[unsafe(no_mangle)]
 pub extern "C" fn vulfsjor_ffi_blake2bp(out: &mut [u8], input: &[u8], key: &[u8]) -> i32
-    ensures status { Returns result
+    ensures status { IsStatusOf result
         (AdmitsParallel blake2b (settings (length out.old) key.now [] [])
         × (parallel_key_count blake2b key.now + length input.now < 2 ^ 64)) }
     ensures digest { result ≡ pos 0
@@ -79,7 +79,7 @@ pub extern "C" fn vulfsjor_ffi_blake2bp(out: &mut [u8], input: &[u8], key: &[u8]
 // scrubs if there is a key.
 #[inline(never)]
 fn initialize(state: &mut State, output_size: usize, key: &[u8], salt: &[u8], persona: &[u8]) -> i32
-    ensures status { Returns result
+    ensures status { IsStatusOf result
         (AdmitsParallel blake2b (settings output_size key.now salt.now persona.now)) }
     ensures ready { result ≡ pos 0 → IsReadyFor output_size state.new }
     ensures fresh { result ≡ pos 0 → Fresh meaning
@@ -107,7 +107,7 @@ pub extern "C" fn vulfsjor_ffi_blake2bp_init_salt_personal(
     salt: &[u8],
     persona: &[u8],
 ) -> i32
-    ensures status { Returns result
+    ensures status { IsStatusOf result
         (AdmitsParallel blake2b (settings output_size key.now salt.now persona.now)) }
     ensures ready { result ≡ pos 0 → IsReadyFor output_size state.new }
     ensures fresh { result ≡ pos 0 → Fresh meaning
@@ -131,7 +131,7 @@ pub extern "C" fn vulfsjor_ffi_blake2bp_init_key(
     output_size: usize,
     key: &[u8],
 ) -> i32
-    ensures status { Returns result
+    ensures status { IsStatusOf result
         ((1 ≤ length key.now) × AdmitsParallel blake2b (settings output_size key.now [] [])) }
     ensures ready { result ≡ pos 0 → IsReadyFor output_size state.new }
     ensures fresh { result ≡ pos 0 → Fresh meaning
@@ -174,7 +174,7 @@ fn update_scrubbed(state: &mut State, input: &[u8])
 /// ready or its count would reach 2^64; the state then stays as it is.
 #[unsafe(no_mangle)]
 pub extern "C" fn vulfsjor_ffi_blake2bp_update(state: &mut State, input: &[u8]) -> i32
-    ensures status { Returns result
+    ensures status { IsStatusOf result
         (IsReady state.old × (meaning.count state.old + length input.now < 2 ^ 64)) }
     ensures ready { result ≡ pos 0 → IsReadyFor state.old.output_size state.new }
     ensures taken { result ≡ pos 0 → Updated meaning state.old input.now state.new }
@@ -212,7 +212,7 @@ fn finalize(state: &mut State, out: &mut [u8])
 /// and the state stays as it is.
 #[unsafe(no_mangle)]
 pub extern "C" fn vulfsjor_ffi_blake2bp_final(state: &mut State, out: &mut [u8]) -> i32
-    ensures status { Returns result
+    ensures status { IsStatusOf result
         (IsReady state.old × (length out.old ≡ state.old.output_size)) }
     ensures output { result ≡ pos 0 → out.new ≡ digest_now meaning state.old }
     ensures wiped { result ≡ pos 0 → state.new ≡ zeros }
@@ -245,7 +245,7 @@ fn is_digest_of(state: &State, tag: &[u8]) -> bool
 /// wiped, and any other stays as it is: anybody can make the digest of a state without a key.
 #[unsafe(no_mangle)]
 pub extern "C" fn vulfsjor_ffi_blake2bp_verify(state: &mut State, tag: &[u8]) -> i32
-    ensures status { Returns result (IsReady state.old × (1 ≤ meaning.start_count state.old)
+    ensures status { IsStatusOf result (IsReady state.old × (1 ≤ meaning.start_count state.old)
         × (tag.now ≡ digest_now meaning state.old)) }
     ensures wiped { IsReady state.old → 1 ≤ meaning.start_count state.old → state.new ≡ zeros }
     ensures same { ¬ (IsReady state.old × (1 ≤ meaning.start_count state.old))
@@ -269,7 +269,7 @@ pub extern "C" fn vulfsjor_ffi_blake2bp_verify(state: &mut State, tag: &[u8]) ->
 fn reset_in_frame(state: &mut State)
     requires { IsReady state.old }
     ensures ready { IsReadyFor state.old.output_size state.new }
-    ensures reset { StartedAgain meaning state.old state.new }
+    ensures reset { ResetToStart meaning state.old state.new }
 {
     state.reset();
 }
@@ -278,9 +278,9 @@ fn reset_in_frame(state: &mut State)
 /// and key. Returns 0, or -1 if the state is not ready; the state then stays as it is.
 #[unsafe(no_mangle)]
 pub extern "C" fn vulfsjor_ffi_blake2bp_reset(state: &mut State) -> i32
-    ensures status { Returns result (IsReady state.old) }
+    ensures status { IsStatusOf result (IsReady state.old) }
     ensures ready { result ≡ pos 0 → IsReadyFor state.old.output_size state.new }
-    ensures reset { result ≡ pos 0 → StartedAgain meaning state.old state.new }
+    ensures reset { result ≡ pos 0 → ResetToStart meaning state.old state.new }
     ensures same { result ≡ negsuc 0 → state.new ≡ state.old }
 {
     if !state.is_ready() {

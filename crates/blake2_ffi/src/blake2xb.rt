@@ -3,14 +3,16 @@
 ghost use Rattle.std.specs.Prelude.{◌≡◌, ◌+◌, ◌-◌, ◌^◌, ◌<◌, ◌≤◌, [], length, take, drop};
 ghost use Rattle.std.specs.Prelude.{pos, negsuc, replicate};
 ghost use Rattle.blake2_simd.specs.Family.{blake2b};
-ghost use Rattle.blake2_digest.specs.States.{Fresh, Updated, StartedAgain};
-ghost use Rattle.blake2_state.specs.ConstructorArguments.{given_count};
+ghost use Rattle.blake2_digest.specs.States.{Fresh, Updated, ResetToStart};
+ghost use Rattle.blake2_state.specs.ConstructorArguments.{counted_key_bytes};
 ghost use Rattle.blake2_state.specs.Blake2b as Root;
-ghost use Rattle.blake2_xof.specs.Blake2xb.{HasSqueezed, IsAbsorbing, IsReady, length_of, meaning};
+ghost use Rattle.blake2_xof.specs.Blake2xb.{HasSqueezed, IsAbsorbing, IsReady, output_length_of};
+ghost use Rattle.blake2_xof.specs.Blake2xb.{meaning};
 ghost use Rattle.blake2_xof.specs.Blake2xb.{output_now, zeros};
-ghost use Rattle.blake2_xof.specs.Xof.{AdmitsXof, CanDerive, IsKnown, derived, outputs, settings};
+ghost use Rattle.blake2_xof.specs.Xof.{AdmitsXof, CanDeriveKey, IsKnownLength, derived_key};
+ghost use Rattle.blake2_xof.specs.Xof.{outputs, settings};
 ghost use Rattle.blake2_xof.specs.Xof.{xof};
-ghost use Rattle.blake2_ffi.specs.Status.{Returns};
+ghost use Rattle.blake2_ffi.specs.Status.{IsStatusOf};
 
 use blake2_digest::scrub_stack;
 use blake2_state::blake2b as root;
@@ -44,10 +46,10 @@ fn has_key_pending(state: &State) -> bool {
 // key.
 #[inline(never)]
 fn write(out: &mut [u8], input: &[u8], key: &[u8]) -> i32
-    ensures status { Returns result
-        (IsKnown blake2b (length out.old)
+    ensures status { IsStatusOf result
+        (IsKnownLength blake2b (length out.old)
         × AdmitsXof blake2b (settings (length out.old) key.now [] [])
-        × (given_count blake2b key.now + length input.now < 2 ^ 64)) }
+        × (counted_key_bytes blake2b key.now + length input.now < 2 ^ 64)) }
     ensures output { result ≡ pos 0
         → out.new ≡ xof blake2b (settings (length out.old) key.now [] []) input.now }
     ensures nothing { result ≡ negsuc 0 → out.new ≡ out.old }
@@ -75,10 +77,10 @@ fn write(out: &mut [u8], input: &[u8], key: &[u8]) -> i32
 /// written.
 #[unsafe(no_mangle)]
 pub extern "C" fn vulfsjor_ffi_blake2xb(out: &mut [u8], input: &[u8], key: &[u8]) -> i32
-    ensures status { Returns result
-        (IsKnown blake2b (length out.old)
+    ensures status { IsStatusOf result
+        (IsKnownLength blake2b (length out.old)
         × AdmitsXof blake2b (settings (length out.old) key.now [] [])
-        × (given_count blake2b key.now + length input.now < 2 ^ 64)) }
+        × (counted_key_bytes blake2b key.now + length input.now < 2 ^ 64)) }
     ensures output { result ≡ pos 0
         → out.new ≡ xof blake2b (settings (length out.old) key.now [] []) input.now }
     ensures nothing { result ≡ negsuc 0 → out.new ≡ out.old }
@@ -99,9 +101,9 @@ pub extern "C" fn vulfsjor_ffi_blake2xb_derive_key(
     key: &[u8],
     context: &[u8],
 ) -> i32
-    ensures status { Returns result (CanDerive blake2b key.now context.now (length out.old)) }
+    ensures status { IsStatusOf result (CanDeriveKey blake2b key.now context.now (length out.old)) }
     ensures output { result ≡ pos 0
-        → out.new ≡ derived blake2b key.now context.now (length out.old) }
+        → out.new ≡ derived_key blake2b key.now context.now (length out.old) }
     ensures nothing { result ≡ negsuc 0 → out.new ≡ out.old }
 {
     if key.is_empty() {
@@ -114,13 +116,13 @@ pub extern "C" fn vulfsjor_ffi_blake2xb_derive_key(
 // scrubs if there is a key.
 #[inline(never)]
 fn initialize(state: &mut State, xof_length: u64, key: &[u8], salt: &[u8], persona: &[u8]) -> i32
-    ensures status { Returns result
+    ensures status { IsStatusOf result
         (AdmitsXof blake2b (settings xof_length key.now salt.now persona.now)) }
     ensures absorbing { result ≡ pos 0 → IsAbsorbing state.new }
     ensures xof_length { result ≡ pos 0 → state.new.reader.xof_length ≡ xof_length }
     ensures fresh { result ≡ pos 0 → Fresh meaning
         (outputs blake2b (settings xof_length key.now salt.now persona.now))
-        (given_count blake2b key.now) state.new }
+        (counted_key_bytes blake2b key.now) state.new }
     ensures zeros { result ≡ negsuc 0 → state.new ≡ zeros }
 {
     let Ok(made) = State::init(xof_length, key, salt, persona) else {
@@ -143,13 +145,13 @@ pub extern "C" fn vulfsjor_ffi_blake2xb_init_salt_personal(
     salt: &[u8],
     persona: &[u8],
 ) -> i32
-    ensures status { Returns result
+    ensures status { IsStatusOf result
         (AdmitsXof blake2b (settings xof_length key.now salt.now persona.now)) }
     ensures absorbing { result ≡ pos 0 → IsAbsorbing state.new }
     ensures xof_length { result ≡ pos 0 → state.new.reader.xof_length ≡ xof_length }
     ensures fresh { result ≡ pos 0 → Fresh meaning
         (outputs blake2b (settings xof_length key.now salt.now persona.now))
-        (given_count blake2b key.now) state.new }
+        (counted_key_bytes blake2b key.now) state.new }
     ensures zeros { result ≡ negsuc 0 → state.new ≡ zeros }
 {
     let status = initialize(state, xof_length, key, salt, persona);
@@ -176,7 +178,7 @@ fn update_in_frame(state: &mut State, input: &[u8])
 /// it is.
 #[unsafe(no_mangle)]
 pub extern "C" fn vulfsjor_ffi_blake2xb_update(state: &mut State, input: &[u8]) -> i32
-    ensures status { Returns result
+    ensures status { IsStatusOf result
         (IsAbsorbing state.old × (meaning.count state.old + length input.now < 2 ^ 64)) }
     ensures absorbing { result ≡ pos 0 → IsAbsorbing state.new }
     ensures xof_length { result ≡ pos 0
@@ -202,7 +204,7 @@ pub extern "C" fn vulfsjor_ffi_blake2xb_update(state: &mut State, input: &[u8]) 
 #[inline(never)]
 fn read(state: &mut State, out: &mut [u8])
     requires ready { IsReady state.old }
-    requires room { state.old.reader.position + length out.old ≤ length_of state.old.reader }
+    requires room { state.old.reader.position + length out.old ≤ output_length_of state.old.reader }
     ensures ready { IsReady state.new }
     ensures squeezed { HasSqueezed state.old (length out.old) state.new }
     ensures output { out.new
@@ -216,8 +218,8 @@ fn read(state: &mut State, out: &mut [u8])
 /// has fewer bytes left; nothing is then written, and the state stays as it is.
 #[unsafe(no_mangle)]
 pub extern "C" fn vulfsjor_ffi_blake2xb_squeeze(state: &mut State, out: &mut [u8]) -> i32
-    ensures status { Returns result (IsReady state.old
-        × (state.old.reader.position + length out.old ≤ length_of state.old.reader)) }
+    ensures status { IsStatusOf result (IsReady state.old
+        × (state.old.reader.position + length out.old ≤ output_length_of state.old.reader)) }
     ensures ready { result ≡ pos 0 → IsReady state.new }
     ensures squeezed { result ≡ pos 0 → HasSqueezed state.old (length out.old) state.new }
     ensures output { result ≡ pos 0 → out.new
@@ -246,7 +248,7 @@ fn reset_in_frame(state: &mut State)
     requires { IsReady state.old }
     ensures absorbing { IsAbsorbing state.new }
     ensures xof_length { state.new.reader.xof_length ≡ state.old.reader.xof_length }
-    ensures reset { StartedAgain meaning state.old state.new }
+    ensures reset { ResetToStart meaning state.old state.new }
     ensures root_hash { state.new.reader.root ≡ replicate 64 0 }
 {
     state.reset();
@@ -257,11 +259,11 @@ fn reset_in_frame(state: &mut State)
 /// not ready; the state then stays as it is.
 #[unsafe(no_mangle)]
 pub extern "C" fn vulfsjor_ffi_blake2xb_reset(state: &mut State) -> i32
-    ensures status { Returns result (IsReady state.old) }
+    ensures status { IsStatusOf result (IsReady state.old) }
     ensures absorbing { result ≡ pos 0 → IsAbsorbing state.new }
     ensures xof_length { result ≡ pos 0
         → state.new.reader.xof_length ≡ state.old.reader.xof_length }
-    ensures reset { result ≡ pos 0 → StartedAgain meaning state.old state.new }
+    ensures reset { result ≡ pos 0 → ResetToStart meaning state.old state.new }
     ensures root_hash { result ≡ pos 0 → state.new.reader.root ≡ replicate 64 0 }
     ensures same { result ≡ negsuc 0 → state.new ≡ state.old }
 {
@@ -288,7 +290,7 @@ pub extern "C" fn vulfsjor_ffi_blake2xb_wipe(state: &mut State)
 #[unsafe(no_mangle)]
 pub extern "C" fn vulfsjor_ffi_blake2xb_left(state: &State) -> u64
     ensures ready { IsReady state.now
-        → result ≡ length_of state.now.reader - state.now.reader.position }
+        → result ≡ output_length_of state.now.reader - state.now.reader.position }
     ensures unready { (¬ IsReady state.now) → result ≡ 0 }
 {
     if state.is_ready() {

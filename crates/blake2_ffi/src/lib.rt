@@ -11,8 +11,8 @@
 
 ghost use Rattle.std.specs.Prelude.{◌≡◌, length, replicate};
 ghost use Rattle.blake2_compress.specs.Views.{tree_of};
-ghost use Rattle.blake2_ffi.specs.Status.{Returns};
-ghost use Rattle.blake2_ffi.specs.TreeArguments.{given_tree};
+ghost use Rattle.blake2_ffi.specs.Status.{IsStatusOf};
+ghost use Rattle.blake2_ffi.specs.TreeArguments.{tree_of_node_parameters};
 
 mod blake2b;
 mod blake2bp;
@@ -51,7 +51,7 @@ pub struct NodeParameters {
 impl NodeParameters {
     // The same tree parameters for the library.
     pub(crate) fn to_tree(&self) -> Tree
-        ensures { tree_of result ≡ given_tree self.now }
+        ensures { tree_of result ≡ tree_of_node_parameters self.now }
     {
         Tree {
             fanout: self.fanout,
@@ -68,7 +68,7 @@ impl NodeParameters {
 /// at all bytes, wherever the first difference is.
 #[unsafe(no_mangle)]
 pub extern "C" fn vulfsjor_ffi_memcmp(a: &[u8], b: &[u8]) -> i32
-    ensures { Returns result (a.now ≡ b.now) }
+    ensures { IsStatusOf result (a.now ≡ b.now) }
 {
     if constant_time_eq(a, b) { 0 } else { -1 }
 }

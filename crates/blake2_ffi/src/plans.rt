@@ -2,18 +2,20 @@
 //! the crates `blake2_tree` and `blake2_state` have them. The threads are the caller's.
 
 ghost use Rattle.std.specs.Prelude.{◌≡◌, ◌<◌, ◌≤◌, ◌^◌, ◌+◌, length, pos, negsuc, true};
-ghost use Rattle.blake2_digest.specs.States.{AtStart};
+ghost use Rattle.blake2_digest.specs.States.{IsAtStart};
 ghost use Rattle.blake2_tree.specs.NodeViews.{node_digest};
-ghost use Rattle.blake2_tree.specs.TreeLengths.{AcceptsLengths, lengths_of};
+ghost use Rattle.blake2_tree.specs.TreeLengths.{AreAcceptedTreeLengths, tree_lengths_of};
 ghost use Rattle.blake2_tree.specs.TreeRoot.{tree_parameters};
-ghost use Rattle.blake2_tree.specs.PartPlans.{AreLimits, IsPlan, IsPlanOf, AreParts, HasDigests};
-ghost use Rattle.blake2_tree.specs.PartPlans.{HasLeafDigests, IsOfUpdate, head_length};
-ghost use Rattle.blake2_tree.specs.PartPlans.{whole_length};
-ghost use Rattle.blake2_tree.specs.PartPlans.{IsPart, IsInOrder, threads_for};
+ghost use Rattle.blake2_tree.specs.PartPlans.{AreValidLimits, IsConsistentPlan, IsPlanOf};
+ghost use Rattle.blake2_tree.specs.PartPlans.{HasPartsWithinLimits, HasMessageDigests};
+ghost use Rattle.blake2_tree.specs.PartPlans.{HasLeafDigests, IsPlanOfUpdate};
+ghost use Rattle.blake2_tree.specs.PartPlans.{open_leaf_fill_length};
+ghost use Rattle.blake2_tree.specs.PartPlans.{whole_leaves_length};
+ghost use Rattle.blake2_tree.specs.PartPlans.{IsPartAt, IsPartInOrder, threads_for};
 ghost use Rattle.blake2_state.specs.Blake2b.{IsReadyFor, meaning, zeros};
 ghost use Rattle.blake2_state.specs.States.{is_on};
 ghost use Rattle.blake2_state.specs.TreeStates.{IsReady, count, parameters};
-ghost use Rattle.blake2_ffi.specs.Status.{Returns};
+ghost use Rattle.blake2_ffi.specs.Status.{IsStatusOf};
 
 use blake2_state::blake2b::State;
 use blake2_state::tree::{TreeState, leaf_state, root_state};
@@ -30,7 +32,7 @@ pub extern "C" fn vulfsjor_ffi_tree_check(
     persona_length: usize,
     leaf_length: u32,
 ) -> i32
-    ensures { Returns result (AcceptsLengths (record {
+    ensures { IsStatusOf result (AreAcceptedTreeLengths (record {
       root = output_size;
       salt = salt_length;
       persona = persona_length;
@@ -57,10 +59,11 @@ pub extern "C" fn vulfsjor_ffi_tree_init_leaf(
     persona: &[u8],
     leaf_length: u32,
 ) -> i32
-    ensures status { Returns result
-        (AcceptsLengths (lengths_of 64 (tree_parameters salt.now persona.now leaf_length))) }
+    ensures status { IsStatusOf result
+        (AreAcceptedTreeLengths (tree_lengths_of 64
+        (tree_parameters salt.now persona.now leaf_length))) }
     ensures ready { result ≡ pos 0 → IsReadyFor 64 state.new }
-    ensures leaf { result ≡ pos 0 → AtStart meaning
+    ensures leaf { result ≡ pos 0 → IsAtStart meaning
         (node_digest 64 (tree_parameters salt.now persona.now leaf_length) i 0) 0 state.new }
     ensures last { result ≡ pos 0 → meaning.last_node state.new ≡ is_on last }
     ensures zeros { result ≡ negsuc 0 → state.new ≡ zeros }
@@ -85,11 +88,11 @@ pub extern "C" fn vulfsjor_ffi_tree_init_root(
     persona: &[u8],
     leaf_length: u32,
 ) -> i32
-    ensures status { Returns result
-        (AcceptsLengths (lengths_of output_size
+    ensures status { IsStatusOf result
+        (AreAcceptedTreeLengths (tree_lengths_of output_size
         (tree_parameters salt.now persona.now leaf_length))) }
     ensures ready { result ≡ pos 0 → IsReadyFor output_size state.new }
-    ensures root { result ≡ pos 0 → AtStart meaning (node_digest output_size
+    ensures root { result ≡ pos 0 → IsAtStart meaning (node_digest output_size
         (tree_parameters salt.now persona.now leaf_length) 0 1) 0 state.new }
     ensures last { result ≡ pos 0 → meaning.last_node state.new ≡ true }
     ensures zeros { result ≡ negsuc 0 → state.new ≡ zeros }
@@ -115,15 +118,15 @@ pub extern "C" fn vulfsjor_ffi_tree_plan(
     leaf_length: u32,
     limits: &Limits,
 ) -> i32
-    ensures status { Returns result ((1 ≤ leaf_length) × AreLimits limits.now
+    ensures status { IsStatusOf result ((1 ≤ leaf_length) × AreValidLimits limits.now
         × (length < 2 ^ 58) × (start + length < 2 ^ 64)) }
-    ensures plan { result ≡ pos 0 → IsPlan plan.new }
+    ensures plan { result ≡ pos 0 → IsConsistentPlan plan.new }
     ensures is { result ≡ pos 0 → IsPlanOf limits.now
         (threads_for limits.now length) leaf_length start length 1 plan.new }
-    ensures parts { result ≡ pos 0 → AreParts limits.now
+    ensures parts { result ≡ pos 0 → HasPartsWithinLimits limits.now
         (threads_for limits.now length) leaf_length length plan.new }
     ensures rest { result ≡ pos 0 → plan.new.rest_length ≡ 0 }
-    ensures digests { result ≡ pos 0 → HasDigests plan.new }
+    ensures digests { result ≡ pos 0 → HasMessageDigests plan.new }
     ensures same { result ≡ negsuc 0 → plan.new ≡ plan.old }
 {
     if leaf_length == 0 || !limits.are_limits() {
@@ -149,18 +152,19 @@ pub extern "C" fn vulfsjor_ffi_tree_plan_update(
     length: u64,
     limits: &Limits,
 ) -> i32
-    ensures status { Returns result
-        (AreLimits limits.now × IsReady state.now × (count state.now + length < 2 ^ 58)) }
-    ensures plan { result ≡ pos 0 → IsPlan plan.new }
+    ensures status { IsStatusOf result
+        (AreValidLimits limits.now × IsReady state.now × (count state.now + length < 2 ^ 58)) }
+    ensures plan { result ≡ pos 0 → IsConsistentPlan plan.new }
     ensures is { result ≡ pos 0 → let size = (parameters state.now).leaf_length in
         IsPlanOf limits.now (threads_for limits.now length) size
-        (head_length size (count state.now) length) (whole_length size (count state.now) length) 0
+        (open_leaf_fill_length size (count state.now) length)
+        (whole_leaves_length size (count state.now) length) 0
         plan.new }
     ensures parts { result ≡ pos 0 → let size = (parameters state.now).leaf_length in
-        AreParts limits.now (threads_for limits.now length) size
-        (whole_length size (count state.now) length) plan.new }
+        HasPartsWithinLimits limits.now (threads_for limits.now length) size
+        (whole_leaves_length size (count state.now) length) plan.new }
     ensures update { result ≡ pos 0
-        → IsOfUpdate (parameters state.now).leaf_length (count state.now) length plan.new }
+        → IsPlanOfUpdate (parameters state.now).leaf_length (count state.now) length plan.new }
     ensures digests { result ≡ pos 0 → HasLeafDigests plan.new }
     ensures same { result ≡ negsuc 0 → plan.new ≡ plan.old }
 {
@@ -180,9 +184,9 @@ pub extern "C" fn vulfsjor_ffi_tree_plan_update(
 /// part then stays as it is.
 #[unsafe(no_mangle)]
 pub extern "C" fn vulfsjor_ffi_tree_part(part: &mut Part, plan: &Plan, i: u64) -> i32
-    ensures status { Returns result (IsPlan plan.now × (i < plan.now.part_count)) }
-    ensures is { result ≡ pos 0 → IsPart plan.now i part.new }
-    ensures order { result ≡ pos 0 → IsInOrder plan.now i part.new }
+    ensures status { IsStatusOf result (IsConsistentPlan plan.now × (i < plan.now.part_count)) }
+    ensures is { result ≡ pos 0 → IsPartAt plan.now i part.new }
+    ensures order { result ≡ pos 0 → IsPartInOrder plan.now i part.new }
     ensures same { result ≡ negsuc 0 → part.new ≡ part.old }
 {
     if !plan.is_plan() || i >= plan.part_count {

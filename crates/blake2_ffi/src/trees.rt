@@ -4,17 +4,20 @@ ghost use Rattle.std.specs.Prelude.{◌≡◌, ℕ, ◌<◌, ◌≤◌, ◌^◌,
 ghost use Rattle.std.specs.Prelude.{◌+◌, pos, negsuc, false};
 ghost use Rattle.blake2_simd.specs.Family.{blake2b};
 ghost use Rattle.blake2_compress.specs.Hash.{digest};
-ghost use Rattle.blake2_tree.specs.TreeRoot.{tree_parameters, tree_root as root_of, root_over};
+ghost use Rattle.blake2_tree.specs.TreeRoot.{tree_parameters, tree_root as root_of};
+ghost use Rattle.blake2_tree.specs.TreeRoot.{root_input_over_digests};
 ghost use Rattle.blake2_tree.specs.TreeRoot.{leaf_count};
-ghost use Rattle.blake2_tree.specs.TreeLengths.{AcceptsLengths, lengths_of};
-ghost use Rattle.blake2_tree.specs.LeafRanges.{IsRange, range_digests, ArePartOfAll, IsRootOfCuts};
-ghost use Rattle.blake2_tree.specs.LeafRanges.{IsRootOfChanges};
-ghost use Rattle.blake2_tree.specs.LeafUpdates.{AcceptsLeaves, AreNextLeaves, next_leaf};
-ghost use Rattle.blake2_tree.specs.LeafUpdates.{TookLeaves, TookDigests};
+ghost use Rattle.blake2_tree.specs.TreeLengths.{AreAcceptedTreeLengths, tree_lengths_of};
+ghost use Rattle.blake2_tree.specs.LeafRanges.{IsLeafRange, range_digests};
+ghost use Rattle.blake2_tree.specs.LeafRanges.{AreDigestsInEveryMessage, IsRootOfCuts};
+ghost use Rattle.blake2_tree.specs.LeafRanges.{IsRootAfterReplacement};
+ghost use Rattle.blake2_tree.specs.LeafUpdates.{AcceptsLeafDigests, AreNextLeaves, next_leaf_index};
+ghost use Rattle.blake2_tree.specs.LeafUpdates.{HasAbsorbedLeaves, HasAbsorbedDigests};
 ghost use Rattle.blake2_state.specs.States.{is_on};
-ghost use Rattle.blake2_state.specs.TreeStates.{IsReady, IsReadyFor, Took, future, count, zeros};
-ghost use Rattle.blake2_state.specs.TreeStates.{IsAsOpened, parameters, state_tree};
-ghost use Rattle.blake2_ffi.specs.Status.{Returns};
+ghost use Rattle.blake2_state.specs.TreeStates.{IsReady, IsReadyFor, HasAbsorbed, future, count};
+ghost use Rattle.blake2_state.specs.TreeStates.{zeros};
+ghost use Rattle.blake2_state.specs.TreeStates.{HasFreshLeafIfEmpty, parameters, state_tree};
+ghost use Rattle.blake2_ffi.specs.Status.{IsStatusOf};
 
 use crate::many::is_room_for;
 use blake2_state::tree::{TreeState, write_root_of_leaves};
@@ -43,7 +46,7 @@ fn write_root<const N: usize>(
 
 // The same for a size that only the call knows.
 fn write_root_by_state(out: &mut [u8], input: &[u8], salt: &[u8], persona: &[u8], leaf_length: u32)
-    requires lengths { AcceptsLengths (lengths_of (length out.old)
+    requires lengths { AreAcceptedTreeLengths (tree_lengths_of (length out.old)
         (tree_parameters salt.now persona.now leaf_length)) }
     requires input { length input.now < 2 ^ 58 }
     ensures { out.new ≡ root_of (length out.old) (tree_parameters salt.now persona.now leaf_length)
@@ -68,8 +71,8 @@ pub extern "C" fn vulfsjor_ffi_tree_root(
     persona: &[u8],
     leaf_length: u32,
 ) -> i32
-    ensures status { Returns result
-        (AcceptsLengths (lengths_of (length out.old)
+    ensures status { IsStatusOf result
+        (AreAcceptedTreeLengths (tree_lengths_of (length out.old)
         (tree_parameters salt.now persona.now leaf_length))
         × (length input.now < 2 ^ 58)) }
     ensures root { result ≡ pos 0 → out.new ≡ root_of (length out.old)
@@ -101,8 +104,8 @@ pub extern "C" fn vulfsjor_ffi_tree_init(
     persona: &[u8],
     leaf_length: u32,
 ) -> i32
-    ensures status { Returns result
-        (AcceptsLengths (lengths_of output_size
+    ensures status { IsStatusOf result
+        (AreAcceptedTreeLengths (tree_lengths_of output_size
         (tree_parameters salt.now persona.now leaf_length))) }
     ensures ready { result ≡ pos 0 → IsReadyFor output_size state.new }
     ensures root { result ≡ pos 0 → (y : List ℕ) → future state.new y
@@ -110,7 +113,7 @@ pub extern "C" fn vulfsjor_ffi_tree_init(
     ensures nothing { result ≡ pos 0 → count state.new ≡ 0 }
     ensures shared { result ≡ pos 0
         → parameters state.new ≡ tree_parameters salt.now persona.now leaf_length }
-    ensures opened { result ≡ pos 0 → IsAsOpened state.new }
+    ensures opened { result ≡ pos 0 → HasFreshLeafIfEmpty state.new }
     ensures zeros { result ≡ negsuc 0 → state.new ≡ zeros }
 {
     let Ok(made) = TreeState::new(output_size, salt, persona, leaf_length) else {
@@ -125,11 +128,11 @@ pub extern "C" fn vulfsjor_ffi_tree_init(
 /// ready or its count would reach 2^58; the state then stays as it is.
 #[unsafe(no_mangle)]
 pub extern "C" fn vulfsjor_ffi_tree_update(state: &mut TreeState, input: &[u8]) -> i32
-    ensures status { Returns result
+    ensures status { IsStatusOf result
         (IsReady state.old × (count state.old + length input.now < 2 ^ 58)) }
     ensures ready { result ≡ pos 0 → IsReadyFor state.old.root.output_size state.new }
-    ensures taken { result ≡ pos 0 → Took state.old input.now state.new }
-    ensures opened { IsAsOpened state.old → IsAsOpened state.new }
+    ensures taken { result ≡ pos 0 → HasAbsorbed state.old input.now state.new }
+    ensures opened { HasFreshLeafIfEmpty state.old → HasFreshLeafIfEmpty state.new }
     ensures same { result ≡ negsuc 0 → state.new ≡ state.old }
 {
     if !state.is_ready() {
@@ -155,13 +158,13 @@ pub extern "C" fn vulfsjor_ffi_tree_leaves_ahead(
     skip: u64,
     input: &[u8],
 ) -> i32
-    ensures status { Returns result
+    ensures status { IsStatusOf result
         (IsReady state.now × AreNextLeaves (state_tree state.now) skip (length input.now)
         × (length out.old ≡ leaf_count state.now.leaf_length (length input.now) * 64)) }
     ensures digests { result ≡ pos 0 → out.new ≡ range_digests (parameters state.now)
-        (next_leaf (state_tree state.now) + skip) false input.now }
-    ensures part { result ≡ pos 0 → ArePartOfAll (parameters state.now)
-        (next_leaf (state_tree state.now) + skip) false input.now out.new }
+        (next_leaf_index (state_tree state.now) + skip) false input.now }
+    ensures part { result ≡ pos 0 → AreDigestsInEveryMessage (parameters state.now)
+        (next_leaf_index (state_tree state.now) + skip) false input.now out.new }
     ensures nothing { result ≡ negsuc 0 → out.new ≡ out.old }
 {
     if !state.is_ready() {
@@ -193,16 +196,16 @@ pub extern "C" fn vulfsjor_ffi_tree_update_leaves(
     digests: &[u8],
     input: &[u8],
 ) -> i32
-    ensures status { Returns result
+    ensures status { IsStatusOf result
         (IsReady state.old
-        × AcceptsLeaves (state_tree state.old) (length digests.now) (length input.now)) }
+        × AcceptsLeafDigests (state_tree state.old) (length digests.now) (length input.now)) }
     ensures ready { result ≡ pos 0 → IsReadyFor state.old.root.output_size state.new }
-    ensures none { result ≡ pos 0 → digests.now ≡ [] → Took state.old input.now state.new }
+    ensures none { result ≡ pos 0 → digests.now ≡ [] → HasAbsorbed state.old input.now state.new }
     ensures digests { result ≡ pos 0
-        → TookDigests (state_tree state.old) digests.now input.now (state_tree state.new) }
-    ensures taken { result ≡ pos 0 → IsAsOpened state.old
-        → TookLeaves (state_tree state.old) digests.now input.now (state_tree state.new) }
-    ensures opened { IsAsOpened state.old → IsAsOpened state.new }
+        → HasAbsorbedDigests (state_tree state.old) digests.now input.now (state_tree state.new) }
+    ensures taken { result ≡ pos 0 → HasFreshLeafIfEmpty state.old
+        → HasAbsorbedLeaves (state_tree state.old) digests.now input.now (state_tree state.new) }
+    ensures opened { HasFreshLeafIfEmpty state.old → HasFreshLeafIfEmpty state.new }
     ensures same { result ≡ negsuc 0 → state.new ≡ state.old }
 {
     if !state.is_ready() || !state.accepts_leaves(digests.len(), input.len()) {
@@ -217,7 +220,7 @@ pub extern "C" fn vulfsjor_ffi_tree_update_leaves(
 /// is then written, and the state stays as it is.
 #[unsafe(no_mangle)]
 pub extern "C" fn vulfsjor_ffi_tree_final(state: &mut TreeState, out: &mut [u8]) -> i32
-    ensures status { Returns result
+    ensures status { IsStatusOf result
         (IsReady state.old × (length out.old ≡ state.old.root.output_size)) }
     ensures output { result ≡ pos 0 → out.new ≡ future state.old [] }
     ensures wiped { result ≡ pos 0 → state.new ≡ zeros }
@@ -318,13 +321,14 @@ pub extern "C" fn vulfsjor_ffi_tree_leaves(
     persona: &[u8],
     leaf_length: u32,
 ) -> i32
-    ensures status { Returns result
-        (AcceptsLengths (lengths_of 64 (tree_parameters salt.now persona.now leaf_length))
-        × IsRange leaf_length first (is_on ends) (length input.now)
+    ensures status { IsStatusOf result
+        (AreAcceptedTreeLengths (tree_lengths_of 64
+        (tree_parameters salt.now persona.now leaf_length))
+        × IsLeafRange leaf_length first (is_on ends) (length input.now)
         × (length out.old ≡ leaf_count leaf_length (length input.now) * 64)) }
     ensures digests { result ≡ pos 0 → out.new ≡ range_digests
         (tree_parameters salt.now persona.now leaf_length) first (is_on ends) input.now }
-    ensures part { result ≡ pos 0 → ArePartOfAll
+    ensures part { result ≡ pos 0 → AreDigestsInEveryMessage
         (tree_parameters salt.now persona.now leaf_length) first (is_on ends) input.now out.new }
     ensures nothing { result ≡ negsuc 0 → out.new ≡ out.old }
 {
@@ -358,15 +362,15 @@ pub extern "C" fn vulfsjor_ffi_tree_root_of_leaves(
     persona: &[u8],
     leaf_length: u32,
 ) -> i32
-    ensures status { Returns result
-        (AcceptsLengths (lengths_of (length out.old)
+    ensures status { IsStatusOf result
+        (AreAcceptedTreeLengths (tree_lengths_of (length out.old)
         (tree_parameters salt.now persona.now leaf_length))
         × (0 < length digests.now) × (length digests.now % 64 ≡ 0)) }
     ensures root { result ≡ pos 0 → out.new ≡ digest blake2b (length out.old)
-        (root_over (tree_parameters salt.now persona.now leaf_length) digests.now) }
+        (root_input_over_digests (tree_parameters salt.now persona.now leaf_length) digests.now) }
     ensures cuts { result ≡ pos 0 → IsRootOfCuts (length out.old)
         (tree_parameters salt.now persona.now leaf_length) digests.now out.new }
-    ensures changes { result ≡ pos 0 → IsRootOfChanges (length out.old)
+    ensures changes { result ≡ pos 0 → IsRootAfterReplacement (length out.old)
         (tree_parameters salt.now persona.now leaf_length) digests.now out.new }
     ensures nothing { result ≡ negsuc 0 → out.new ≡ out.old }
 {

@@ -7,35 +7,38 @@ use Rattle.std.proofs.lemmas.List.{length-take-le}
 use Rattle.blake2_simd.specs.Family.{Family, blake2b, blake2s, block_bytes}
 use Rattle.blake2_compress.specs.Hash.{Flags, bytes_of, compress, final, inner, padded}
 use Rattle.blake2_compress.specs.MessagePieces.{piece}
-use Rattle.blake2_parallel.specs.Parallel.{leaf_message, leaves, output_from, stripe_bytes}
-use Rattle.blake2_parallel.specs.LeafStates.{Leaves, Took, WentOn, leaf_chain, leaf_future}
-use Rattle.blake2_parallel.proofs.LongerRuns.{enough, last_chain-stripe, piece-place}
+use Rattle.blake2_parallel.specs.Parallel.{leaf_message, leaves, node_output_from, stripe_bytes}
+use Rattle.blake2_parallel.specs.LeafStates.{Leaves, HasAbsorbed, HasAbsorbedPrefix, leaf_chain}
+use Rattle.blake2_parallel.specs.LeafStates.{leaf_future}
+use Rattle.blake2_parallel.proofs.LongerRuns.{least_bytes_after_one_stripe}
+use Rattle.blake2_parallel.proofs.LongerRuns.{last_chain-after_first_stripe, piece-of_stripe}
 
 -- The output of leaf j over these bytes, from these words.
-abbrev pub over : Family → List ℕ → ℕ → List ℕ → ℕ → List ℕ
-over f h c z j = output_from f h c (leaf_message f z j) (nat_eq (j + 1) (leaves f))
+abbrev pub leaf_output_over : Family → List ℕ → ℕ → List ℕ → ℕ → List ℕ
+leaf_output_over f h c z j = node_output_from f h c (leaf_message f z j) (nat_eq (j + 1) (leaves f))
 
-pub leaf_future-over : (f : Family) (s : Leaves) (y : List ℕ) (j : ℕ)
-    → leaf_future f s y j ≡ over f (s.words j) s.count (s.pending ++ y) j
+pub leaf_future-is_leaf_output_over : (f : Family) (s : Leaves) (y : List ℕ) (j : ℕ)
+    → leaf_future f s y j ≡ leaf_output_over f (s.words j) s.count (s.pending ++ y) j
 unfolding leaf_future
-leaf_future-over f s y j = refl
+leaf_future-is_leaf_output_over f s y j = refl
 
 -- Bytes that become pending.
-pub future-kept : (f : Family) (old new : Leaves) (x : List ℕ)
+pub leaf_future-input_becomes_pending : (f : Family) (old new : Leaves) (x : List ℕ)
     → ((j : ℕ) → new.words j ≡ old.words j) → new.count ≡ old.count
     → new.pending ≡ old.pending ++ x → (y : List ℕ) (j : ℕ)
     → leaf_future f new y j ≡ leaf_future f old (x ++ y) j
-future-kept f old new x words count pending y j =
-    leaf_future-over f new y j
-    ∙ (λ i. over f (words j i) (count i) (pending i ++ y) j)
-    ∙ ap (λ (z : List ℕ). over f (old.words j) old.count z j) (append_assoc old.pending x y)
-    ∙ sym (leaf_future-over f old (x ++ y) j)
+leaf_future-input_becomes_pending f old new x words count pending y j =
+    leaf_future-is_leaf_output_over f new y j
+    ∙ (λ i. leaf_output_over f (words j i) (count i) (pending i ++ y) j)
+    ∙ ap (λ (z : List ℕ). leaf_output_over f (old.words j) old.count z j)
+    (append_assoc old.pending x y)
+    ∙ sym (leaf_future-is_leaf_output_over f old (x ++ y) j)
 
-pub Took-kept : (f : Family) (old new : Leaves) (x : List ℕ)
+pub HasAbsorbed-input_becomes_pending : (f : Family) (old new : Leaves) (x : List ℕ)
     → ((j : ℕ) → new.words j ≡ old.words j) → new.count ≡ old.count
-    → new.pending ≡ old.pending ++ x → Took f old x new
-Took-kept f old new x words count pending = record {
-  future = λ y j lane. future-kept f old new x words count pending y j;
+    → new.pending ≡ old.pending ++ x → HasAbsorbed f old x new
+HasAbsorbed-input_becomes_pending f old new x words count pending = record {
+  future = λ y j lane. leaf_future-input_becomes_pending f old new x words count pending y j;
   total = omega (
     arith,
     ap (λ (n : ℕ). leaves f * n) count,
@@ -44,20 +47,23 @@ Took-kept f old new x words count pending = record {
   );
 }
 
-pub WentOn-same : (f : Family) (s : Leaves) (x : List ℕ) → WentOn f s x s x
-WentOn-same f s x = record { future = λ y j lane. refl; total = refl }
+pub HasAbsorbedPrefix-empty_prefix : (f : Family) (s : Leaves) (x : List ℕ)
+    → HasAbsorbedPrefix f s x s x
+HasAbsorbedPrefix-empty_prefix f s x = record { future = λ y j lane. refl; total = refl }
 
-pub WentOn-then : (f : Family) (a b c : Leaves) (x y z : List ℕ) → WentOn f a x b y
-    → WentOn f b y c z → WentOn f a x c z
-WentOn-then f a b c x y z first second = record {
+pub HasAbsorbedPrefix-trans : (f : Family) (a b c : Leaves) (x y z : List ℕ)
+    → HasAbsorbedPrefix f a x b y
+    → HasAbsorbedPrefix f b y c z → HasAbsorbedPrefix f a x c z
+HasAbsorbedPrefix-trans f a b c x y z first second = record {
   future = λ w j lane. second.future w j lane ∙ first.future w j lane;
   total = second.total ∙ first.total;
 }
 
 -- The first bytes of an input become pending.
-pub WentOn-kept : (f : Family) (old new : Leaves) (head rest input : List ℕ) → input ≡ head ++ rest
-    → Took f old head new → WentOn f old input new rest
-WentOn-kept f old new head rest input joined took = record {
+pub HasAbsorbedPrefix-by_HasAbsorbed : (f : Family) (old new : Leaves) (head rest input : List ℕ)
+    → input ≡ head ++ rest
+    → HasAbsorbed f old head new → HasAbsorbedPrefix f old input new rest
+HasAbsorbedPrefix-by_HasAbsorbed f old new head rest input joined took = record {
   future = λ y j lane. took.future (rest ++ y) j lane
       ∙ ap (λ (z : List ℕ). leaf_future f old z j)
       (sym (append_assoc head rest y) ∙ ap (λ (z : List ℕ). z ++ y) (sym joined));
@@ -65,21 +71,22 @@ WentOn-kept f old new head rest input joined took = record {
 }
 
 -- All of the rest becomes pending.
-pub Took-rest : (f : Family) (a b c : Leaves) (x rest : List ℕ) → WentOn f a x b rest
-    → Took f b rest c → Took f a x c
-Took-rest f a b c x rest went took = record {
+pub HasAbsorbed-prefix_and_rest : (f : Family) (a b c : Leaves) (x rest : List ℕ)
+    → HasAbsorbedPrefix f a x b rest
+    → HasAbsorbed f b rest c → HasAbsorbed f a x c
+HasAbsorbed-prefix_and_rest f a b c x rest went took = record {
   future = λ y j lane. took.future y j lane ∙ went.future y j lane;
   total = took.total ∙ went.total;
 }
 
 -- Leaves with the same words, count and pending bytes are the same.
-pub WentOn-equal : (f : Family) (old new : Leaves) (x : List ℕ)
+pub HasAbsorbedPrefix-of_equal_leaves : (f : Family) (old new : Leaves) (x : List ℕ)
     → ((j : ℕ) → new.words j ≡ old.words j) → new.count ≡ old.count → new.pending ≡ old.pending
-    → WentOn f old x new x
-WentOn-equal f old new x words count pending = record {
-  future = λ y j lane. leaf_future-over f new (x ++ y) j
-      ∙ (λ i. over f (words j i) (count i) (pending i ++ (x ++ y)) j)
-      ∙ sym (leaf_future-over f old (x ++ y) j);
+    → HasAbsorbedPrefix f old x new x
+HasAbsorbedPrefix-of_equal_leaves f old new x words count pending = record {
+  future = λ y j lane. leaf_future-is_leaf_output_over f new (x ++ y) j
+      ∙ (λ i. leaf_output_over f (words j i) (count i) (pending i ++ (x ++ y)) j)
+      ∙ sym (leaf_future-is_leaf_output_over f old (x ++ y) j);
   total = omega (
     arith,
     ap (λ (n : ℕ). leaves f * n) count,
@@ -87,95 +94,104 @@ WentOn-equal f old new x words count pending = record {
   );
 }
 
-blocks_fit : (f : Family) (n j : ℕ) → enough f < n → j < leaves f
+leaf_block-within_bytes : (f : Family) (n j : ℕ) → least_bytes_after_one_stripe f < n → j < leaves f
     → (block_bytes f ≤ n - j * block_bytes f) × (j * block_bytes f ≤ n) × (stripe_bytes f ≤ n)
-blocks_fit blake2b n j more lane = (omega arith, omega arith, omega arith)
-blocks_fit blake2s n j more lane = (omega arith, omega arith, omega arith)
+leaf_block-within_bytes blake2b n j more lane = (omega arith, omega arith, omega arith)
+leaf_block-within_bytes blake2s n j more lane = (omega arith, omega arith, omega arith)
 
 -- The output of a leaf after a stripe was compressed: z is what was pending, and the input.
-over-stripe : (f : Family) (h new : List ℕ) (c : ℕ) (z y : List ℕ) (j : ℕ) → j < leaves f
-    → enough f < length z
+leaf_output_over-after_one_stripe : (f : Family) (h new : List ℕ) (c : ℕ) (z y : List ℕ) (j : ℕ)
+    → j < leaves f
+    → least_bytes_after_one_stripe f < length z
     → new ≡ compress f h (piece (block_bytes f) z j) (c + block_bytes f) inner
-    → over f new (c + block_bytes f) (drop (stripe_bytes f) z ++ y) j ≡ over f h c (z ++ y) j
-over-stripe f h new c z y j lane more is =
+    → leaf_output_over f new (c + block_bytes f) (drop (stripe_bytes f) z ++ y) j
+    ≡ leaf_output_over f h c (z ++ y) j
+leaf_output_over-after_one_stripe f h new c z y j lane more is =
     let b : ℕ = block_bytes f in
-    let fits = blocks_fit f (length z) j more lane in
-    let long : enough f < length (z ++ y) = omega (arith, length-append z y) in
+    let fits = leaf_block-within_bytes f (length z) j more lane in
+    let long : least_bytes_after_one_stripe f < length (z ++ y) =
+    omega (arith, length-append z y) in
     let block : piece b (z ++ y) j ≡ piece b z j =
     ap (take b) (drop-append-le (j * b) z y fits.1)
     ∙ take-append-le b (drop (j * b) z) y (omega (arith, length-drop (j * b) z, fits.0)) in
     let rest : drop (stripe_bytes f) (z ++ y) ≡ drop (stripe_bytes f) z ++ y =
     drop-append-le (stripe_bytes f) z y fits.2 in
     let flags : Flags = final (nat_eq (j + 1) (leaves f)) in
-    sym (ap (bytes_of f) (last_chain-stripe f flags h c (z ++ y) j lane long)
-    ∙ (λ i. output_from f (compress f h (block i) (c + b) inner) (c + b)
+    sym (ap (bytes_of f) (last_chain-after_first_stripe f flags h c (z ++ y) j lane long)
+    ∙ (λ i. node_output_from f (compress f h (block i) (c + b) inner) (c + b)
     (leaf_message f (rest i) j) (nat_eq (j + 1) (leaves f)))
-    ∙ ap (λ (w : List ℕ). over f w (c + b) (drop (stripe_bytes f) z ++ y) j) (sym is))
+    ∙ ap (λ (w : List ℕ). leaf_output_over f w (c + b) (drop (stripe_bytes f) z ++ y) j) (sym is))
 
 -- A stripe more, and where it begins.
-stripes_more : (f : Family) (n c : ℕ) → (suc n * stripe_bytes f ≡ n * stripe_bytes f + stripe_bytes f)
+stripe_bytes-of_one_stripe_more : (f : Family) (n c : ℕ)
+    → (suc n * stripe_bytes f ≡ n * stripe_bytes f + stripe_bytes f)
     × (c + n * block_bytes f + block_bytes f ≡ c + suc n * block_bytes f)
-stripes_more blake2b n c = (omega arith, omega arith)
-stripes_more blake2s n c = (omega arith, omega arith)
+stripe_bytes-of_one_stripe_more blake2b n c = (omega arith, omega arith)
+stripe_bytes-of_one_stripe_more blake2s n c = (omega arith, omega arith)
 
 -- The least number of bytes, less one, with which each leaf has a byte after its blocks of n
 -- stripes.
-abbrev pub reach : Family → ℕ → ℕ
-reach f n = n * stripe_bytes f + (leaves f - 1) * block_bytes f
+abbrev pub least_bytes_after_stripes : Family → ℕ → ℕ
+least_bytes_after_stripes f n = n * stripe_bytes f + (leaves f - 1) * block_bytes f
 
-reach_before : (f : Family) (n m : ℕ) → reach f (suc n) < m
-    → (reach f n < m) × (enough f < m - n * stripe_bytes f)
-reach_before blake2b n m more = (omega arith, omega arith)
-reach_before blake2s n m more = (omega arith, omega arith)
+least_bytes_after_stripes-smaller : (f : Family) (n m : ℕ) → least_bytes_after_stripes f (suc n) < m
+    → (least_bytes_after_stripes f n < m) × (least_bytes_after_one_stripe f < m - n * stripe_bytes
+    f)
+least_bytes_after_stripes-smaller blake2b n m more = (omega arith, omega arith)
+least_bytes_after_stripes-smaller blake2s n m more = (omega arith, omega arith)
 
 -- The output of a leaf after n stripes were compressed: z is what was pending, and the input.
-over-stripes : (f : Family) (h : List ℕ) (c : ℕ) (z y : List ℕ) (j n : ℕ) → j < leaves f
-    → reach f n < length z
-    → over f (leaf_chain f h c z j n) (c + n * block_bytes f) (drop (n * stripe_bytes f) z ++ y) j
-    ≡ over f h c (z ++ y) j
+leaf_output_over-after_n_stripes : (f : Family) (h : List ℕ) (c : ℕ) (z y : List ℕ) (j n : ℕ)
+    → j < leaves f
+    → least_bytes_after_stripes f n < length z
+    → leaf_output_over f (leaf_chain f h c z j n) (c + n * block_bytes f)
+    (drop (n * stripe_bytes f) z ++ y) j
+    ≡ leaf_output_over f h c (z ++ y) j
 unfolding leaf_chain
-over-stripes f h c z y j zero lane more =
+leaf_output_over-after_n_stripes f h c z y j zero lane more =
     let count : c + 0 * block_bytes f ≡ c = omega arith in
     let none : 0 * stripe_bytes f ≡ 0 = omega arith in
-    (λ i. over f h (count i) (drop (none i) z ++ y) j)
-over-stripes f h c z y j (suc n) lane more =
+    (λ i. leaf_output_over f h (count i) (drop (none i) z ++ y) j)
+leaf_output_over-after_n_stripes f h c z y j (suc n) lane more =
     let b : ℕ = block_bytes f in
     let s : ℕ = stripe_bytes f in
     let rest : List ℕ = drop (n * s) z in
     let old : List ℕ = leaf_chain f h c z j n in
     let new : List ℕ = leaf_chain f h c z j (suc n) in
-    let fits = reach_before f n (length z) more in
-    let steps = stripes_more f n c in
+    let fits = least_bytes_after_stripes-smaller f n (length z) more in
+    let steps = stripe_bytes-of_one_stripe_more f n c in
     let count : c + (n + 1) * b ≡ c + n * b + b = ap (λ (k : ℕ). c + k * b) (sym next) ∙ sym steps.1 in
     let is : new ≡ compress f old (piece b rest j) (c + n * b + b) inner =
-    (λ i. compress f old (piece-place f z n j i) (count i) inner) in
+    (λ i. compress f old (piece-of_stripe f z n j i) (count i) inner) in
     let left : drop s rest ≡ drop (suc n * s) z =
     drop-drop s (n * s) z ∙ ap (λ (k : ℕ). drop k z) (sym steps.0) in
-    (λ i. over f new (sym steps.1 i) (sym left i ++ y) j)
-    ∙ over-stripe f old new (c + n * b) rest y j lane (omega (arith, length-drop (n * s) z, fits.1)) is
-    ∙ over-stripes f h c z y j n lane fits.0
+    (λ i. leaf_output_over f new (sym steps.1 i) (sym left i ++ y) j)
+    ∙ leaf_output_over-after_one_stripe f old new (c + n * b) rest y j lane
+    (omega (arith, length-drop (n * s) z, fits.1)) is
+    ∙ leaf_output_over-after_n_stripes f h c z y j n lane fits.0
   where
     next : suc n ≡ n + 1
     next = omega arith
 
 -- Stripes of what was pending and of the input were compressed.
-pub WentOn-stripes : (f : Family) (old new : Leaves) (n : ℕ) (input rest : List ℕ)
-    → reach f n < length (old.pending ++ input)
+pub HasAbsorbedPrefix-n_stripes : (f : Family) (old new : Leaves) (n : ℕ) (input rest : List ℕ)
+    → least_bytes_after_stripes f n < length (old.pending ++ input)
     → ((j : ℕ) → j < leaves f
     → new.words j ≡ leaf_chain f (old.words j) old.count (old.pending ++ input) j n)
     → new.count ≡ old.count + n * block_bytes f
     → new.pending ++ rest ≡ drop (n * stripe_bytes f) (old.pending ++ input)
-    → WentOn f old input new rest
-WentOn-stripes f old new n input rest more words count left = record {
+    → HasAbsorbedPrefix f old input new rest
+HasAbsorbedPrefix-n_stripes f old new n input rest more words count left = record {
   future = λ y j lane.
       let z : List ℕ = old.pending ++ input in
-      leaf_future-over f new (rest ++ y) j
-      ∙ ap (λ (w : List ℕ). over f (new.words j) new.count w j)
+      leaf_future-is_leaf_output_over f new (rest ++ y) j
+      ∙ ap (λ (w : List ℕ). leaf_output_over f (new.words j) new.count w j)
       (sym (append_assoc new.pending rest y) ∙ ap (λ (w : List ℕ). w ++ y) left)
-      ∙ (λ i. over f (words j lane i) (count i) (drop (n * stripe_bytes f) z ++ y) j)
-      ∙ over-stripes f (old.words j) old.count z y j n lane more
-      ∙ ap (λ (w : List ℕ). over f (old.words j) old.count w j) (append_assoc old.pending input y)
-      ∙ sym (leaf_future-over f old (input ++ y) j);
+      ∙ (λ i. leaf_output_over f (words j lane i) (count i) (drop (n * stripe_bytes f) z ++ y) j)
+      ∙ leaf_output_over-after_n_stripes f (old.words j) old.count z y j n lane more
+      ∙ ap (λ (w : List ℕ). leaf_output_over f (old.words j) old.count w j)
+      (append_assoc old.pending input y)
+      ∙ sym (leaf_future-is_leaf_output_over f old (input ++ y) j);
   total = total-stripes f n old.count new.count (length old.pending) (length new.pending)
       (length input) (length rest) (omega (arith, more, length-append old.pending input)) count
       (omega (
@@ -187,16 +203,17 @@ WentOn-stripes f old new n input rest more words count left = record {
       ));
 }
   where
-    total-stripes : (f : Family) (n c d p q k m : ℕ) → reach f n < p + k → d ≡ c + n * block_bytes f
+    total-stripes : (f : Family) (n c d p q k m : ℕ) → least_bytes_after_stripes f n < p + k
+        → d ≡ c + n * block_bytes f
         → q + m ≡ p + k - n * stripe_bytes f → leaves f * d + q + m ≡ leaves f * c + p + k
     total-stripes blake2b n c d p q k m more count left = omega arith
     total-stripes blake2s n c d p q k m more count left = omega arith
 
 -- The bytes that are left after a stripe of s bytes, among the first n of p.
-pub held-rest : (s n m : ℕ) (p q y : List ℕ) → s ≤ n → n ≤ length p
+pub pending_rest-after_one_stripe : (s n m : ℕ) (p q y : List ℕ) → s ≤ n → n ≤ length p
     → q ≡ padded m (take (n - s) (drop s p)) → take (n - s) q ++ y ≡ drop s (take n p ++ y)
 unfolding padded
-held-rest s n m p q y begun fits is =
+pending_rest-after_one_stripe s n m p q y begun fits is =
     let x : List ℕ = take (n - s) (drop s p) in
     let size : length x ≡ n - s =
     length-take-le (n - s) (drop s p) (omega (arith, length-drop s p)) in

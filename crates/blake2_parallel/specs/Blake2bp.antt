@@ -18,7 +18,7 @@ leaves_of s = record {
 }
 
 -- At most seven blocks are pending, and the count is below 2^64.
-pub record IsSound (s : Lanes) : Type 0 where
+pub record HasBoundedCounts (s : Lanes) : Type 0 where
   pub within : s.length ≤ 896
   pub counted : 4 * s.counter + s.length < 2 ^ 64
 
@@ -41,16 +41,16 @@ abbrev pub meaning : Meaning State
 meaning = parallel_meaning_by blake2b held_by
 
 -- The state's lengths and counts are those of a hash. Its digest may be empty.
-pub record IsWithin (s : State) : Type 0 where
+pub record IsWithinLimits (s : State) : Type 0 where
   pub most : s.output_size ≤ 64
-  pub lanes : IsSound s.lanes
+  pub lanes : HasBoundedCounts s.lanes
   pub start : s.start_length ≤ 512
 
 -- The state returns digests: its digest length is one of BLAKE2b's, at most seven blocks are
 -- pending, a start leaves at most four, and the count is below 2^64.
 pub record IsReady (s : State) : Type 0 where
   pub least : 1 ≤ s.output_size
-  pub within : IsWithin s
+  pub within : IsWithinLimits s
 
 -- The state returns digests of `size` bytes.
 abbrev pub IsReadyFor : ℕ → State → Type 0

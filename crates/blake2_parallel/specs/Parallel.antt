@@ -65,8 +65,8 @@ pub record AdmitsParallel (f : Family) (a : Settings) : Type 0 where
 
 -- The tree parameters of a node (the BLAKE2 document, 2.8 and 2.10): the fanout is P, there are two
 -- levels, a leaf has no limit, and the digests of leaves are as long as the longest of the family.
-abbrev pub parallel_place : Family → ℕ → ℕ → Tree
-parallel_place f offset depth = record {
+abbrev pub parallel_tree_parameters : Family → ℕ → ℕ → Tree
+parallel_tree_parameters f offset depth = record {
   fanout = leaves f;
   depth = 2;
   leaf_length = 0;
@@ -76,40 +76,41 @@ parallel_place f offset depth = record {
 }
 
 -- The parameters of a node. All nodes name the length of the hash's digest and that of the key.
-abbrev pub parameters_at : Family → Settings → ℕ → ℕ → Parameters
-parameters_at f a offset depth = record {
+abbrev pub parallel_node_parameters : Family → Settings → ℕ → ℕ → Parameters
+parallel_node_parameters f a offset depth = record {
   size = a.size;
   key_size = length a.key;
   salt = a.salt;
   persona = a.persona;
-  tree = parallel_place f offset depth;
+  tree = parallel_tree_parameters f offset depth;
 }
 
 -- The whole output of a node that starts from h: the bytes of its last h.
-abbrev pub output_from : Family → List ℕ → ℕ → List ℕ → Bool → List ℕ
-output_from f h count bytes last = bytes_of f (last_chain f h count bytes (final last))
+abbrev pub node_output_from : Family → List ℕ → ℕ → List ℕ → Bool → List ℕ
+node_output_from f h count bytes last = bytes_of f (last_chain f h count bytes (final last))
 
 -- The bytes before each leaf's part of the message: the key padded with zeros to a block, or no
 -- bytes without a key.
-abbrev pub leaf_key : Family → List ℕ → List ℕ
-leaf_key f [] = []
-leaf_key f (x ∷ key) = padded (block_bytes f) (x ∷ key)
+abbrev pub leaf_key_block : Family → List ℕ → List ℕ
+leaf_key_block f [] = []
+leaf_key_block f (x ∷ key) = padded (block_bytes f) (x ∷ key)
 
 -- The number of bytes that a key counts for: a block in each leaf.
 abbrev pub parallel_key_count : Family → List ℕ → ℕ
-parallel_key_count f key = leaves f * length (leaf_key f key)
+parallel_key_count f key = leaves f * length (leaf_key_block f key)
 
 -- The whole output of leaf j. The last leaf has the last-node flag.
 abbrev pub leaf_output : Family → Settings → List ℕ → ℕ → List ℕ
 leaf_output f a message j =
-    output_from f (start f (parameters_at f a j 0)) 0 (leaf_key f a.key ++ leaf_message f message j)
+    node_output_from f (start f (parallel_node_parameters f a j 0)) 0
+    (leaf_key_block f a.key ++ leaf_message f message j)
     (nat_eq (j + 1) (leaves f))
 
 -- The digest of a message: the first bytes of the root's output, which hashes the outputs of the
 -- leaves. The root has the last-node flag, and no key block.
 unfoldable pub parallel_digest : Family → Settings → List ℕ → List ℕ
 parallel_digest f a message =
-    take a.size (output_from f (start f (parameters_at f a 0 1)) 0
+    take a.size (node_output_from f (start f (parallel_node_parameters f a 0 1)) 0
     (flat_map (leaf_output f a message) (range_with_len 0 (leaves f))) true)
 
 -- The same as a function of a last-node flag too, which changes nothing: the tree is fixed.

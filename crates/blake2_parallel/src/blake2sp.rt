@@ -9,11 +9,13 @@ ghost use Rattle.blake2_simd.specs.Lanes.{in_lane};
 ghost use Rattle.blake2_simd.specs.Rows.{chaining_words};
 ghost use Rattle.blake2_compress.specs.Hash.{start};
 ghost use Rattle.blake2_compress.specs.Views.{given_parameters};
-ghost use Rattle.blake2_digest.specs.States.{Fresh, Updated, StartedAgain, digest_now};
+ghost use Rattle.blake2_digest.specs.States.{Fresh, Updated, ResetToStart, digest_now};
 ghost use Rattle.blake2_parallel.specs.Parallel.{AdmitsParallel, SettingsFit, digests};
 ghost use Rattle.blake2_parallel.specs.Parallel.{parallel_key_count};
-ghost use Rattle.blake2_parallel.specs.Parallel.{parameters_at, output_from, settings};
-ghost use Rattle.blake2_parallel.specs.Blake2sp.{IsReady, IsWithin, meaning, zeros, zeros_for};
+ghost use Rattle.blake2_parallel.specs.Parallel.{parallel_node_parameters, node_output_from};
+ghost use Rattle.blake2_parallel.specs.Parallel.{settings};
+ghost use Rattle.blake2_parallel.specs.Blake2sp.{IsReady, IsWithinLimits, meaning, zeros};
+ghost use Rattle.blake2_parallel.specs.Blake2sp.{zeros_for};
 
 use crate::lanes::blake2sp::Lanes;
 use blake2_compress::compress::Flags;
@@ -36,7 +38,8 @@ fn parameters<'a>(
     node_depth: u8,
 ) -> Parameters<'a>
     ensures { given_parameters result
-        ≡ parameters_at blake2s (settings output_size key.now salt.now persona.now) node_offset
+        ≡ parallel_node_parameters blake2s (settings output_size key.now salt.now persona.now)
+        node_offset
         node_depth }
 {
     Parameters {
@@ -60,7 +63,7 @@ fn parameters<'a>(
 fn first_rows(output_size: usize, key: &[u8], salt: &[u8], persona: &[u8]) -> [[u32; 8]; 8]
     requires { SettingsFit blake2s (settings output_size key.now salt.now persona.now) }
     ensures { (j : ℕ) → j < 8 → in_lane j result ≡ start blake2s
-        (parameters_at blake2s (settings output_size key.now salt.now persona.now) j 0) }
+        (parallel_node_parameters blake2s (settings output_size key.now salt.now persona.now) j 0) }
 {
     let first = parameters(output_size, key, salt, persona, 0, 0);
     let [h0, h1, h2, h3, h4, h5, h6, h7] = start_words(&first);
@@ -88,7 +91,7 @@ fn start_length(key: &[u8]) -> usize
 // The output of a node that has the chaining words `h` before its data.
 fn output_of(h: [u32x4; 2], bytes: &[u8], last_node: bool) -> [u8; 32]
     requires { length bytes.now < 2 ^ 64 }
-    ensures { result ≡ output_from blake2s (chaining_words h) 0 bytes.now last_node }
+    ensures { result ≡ node_output_from blake2s (chaining_words h) 0 bytes.now last_node }
 {
     let mut words = h;
     let mut count = 0;
@@ -202,7 +205,7 @@ impl State {
     // A state that has absorbed no message.
     pub(crate) fn new(output_size: usize, key: &[u8], salt: &[u8], persona: &[u8]) -> Self
         requires { SettingsFit blake2s (settings output_size key.now salt.now persona.now) }
-        ensures within { IsWithin result }
+        ensures within { IsWithinLimits result }
         ensures size { result.output_size ≡ output_size }
         ensures fresh { Fresh meaning
             (digests blake2s (settings output_size key.now salt.now persona.now))
@@ -262,7 +265,7 @@ impl State {
     /// Returns how many bytes the state has counted since its last start, including those that
     /// are pending and those of a key's blocks: 512 for a key. The state must be ready.
     pub fn counted(&self) -> u64
-        requires { IsWithin self.now }
+        requires { IsWithinLimits self.now }
         ensures { result ≡ meaning.count self.now }
     {
         8 * self.lanes.counter + self.lanes.length as u64
@@ -271,9 +274,9 @@ impl State {
     /// Absorbs the input after all that was absorbed before. The state must be ready. Fewer than
     /// 2^64 bytes may be counted in all; `counted` returns the count so far.
     pub fn update(&mut self, input: &[u8])
-        requires within { IsWithin self.old }
+        requires within { IsWithinLimits self.old }
         requires counted { meaning.count self.old + length input.now < 2 ^ 64 }
-        ensures within { IsWithin self.new }
+        ensures within { IsWithinLimits self.new }
         ensures size { self.new.output_size ≡ self.old.output_size }
         ensures updated { Updated meaning self.old input.now self.new }
     {
@@ -282,10 +285,10 @@ impl State {
 
     /// Goes back to the start: parameters and key are kept. The state must be ready.
     pub fn reset(&mut self)
-        requires { IsWithin self.old }
-        ensures within { IsWithin self.new }
+        requires { IsWithinLimits self.old }
+        ensures within { IsWithinLimits self.new }
         ensures size { self.new.output_size ≡ self.old.output_size }
-        ensures reset { StartedAgain meaning self.old self.new }
+        ensures reset { ResetToStart meaning self.old self.new }
     {
         self.lanes = Lanes::new(&self.first, &self.key_block, self.start_length);
     }
@@ -293,7 +296,7 @@ impl State {
     // The output of the root, which begins with the digest of what was absorbed since the last
     // start.
     fn output(&self) -> [u8; 32]
-        requires { IsWithin self.now }
+        requires { IsWithinLimits self.now }
         ensures { take self.now.output_size result ≡ digest_now meaning self.now }
     {
         let outputs = self.lanes.outputs();
@@ -304,7 +307,7 @@ impl State {
     /// which must have at least `output_size` bytes. Those after the digest stay as they are. The
     /// state must be ready. It stays as it is, and can absorb more.
     pub fn write_digest(&self, out: &mut [u8])
-        requires within { IsWithin self.now }
+        requires within { IsWithinLimits self.now }
         requires room { self.now.output_size ≤ length out.old }
         ensures { out.new ≡ digest_now meaning self.now ++ drop self.now.output_size out.old }
     {
@@ -317,7 +320,7 @@ impl State {
     /// bytes of a tag of its length are compared, wherever it differs. The state must be ready,
     /// and stays as it is.
     pub fn is_digest(&self, tag: &[u8]) -> bool
-        requires { IsWithin self.now }
+        requires { IsWithinLimits self.now }
         ensures { IsTrue result ↔ (tag.now ≡ digest_now meaning self.now) }
     {
         let whole = self.output();

@@ -18,20 +18,21 @@ after-after xs ys (Ok zs) = ap Ok (append_assoc xs ys zs)
 after-after xs ys (Err fault) = refl
 
 -- No earlier digests.
-pub after_none : (p : Played) → p ≡ after [] p
-after_none (Ok xs) = refl
-after_none (Err fault) = refl
+pub after-no_digests : (p : Played) → p ≡ after [] p
+after-no_digests (Ok xs) = refl
+after-no_digests (Err fault) = refl
 
 -- An error other than being out of memory would be that of a list of calls that returns digests.
-pub memory_alone : (p : Played) (fault : ReplayFault) → (fault ≡ Memory) ⊎ (p ≡ Err fault) → IsOk p
+pub fault-is_memory_if_play_ok : (p : Played) (fault : ReplayFault) → (fault ≡ Memory)
+    ⊎ (p ≡ Err fault) → IsOk p
     → fault ≡ Memory
-memory_alone p fault (inl e) good = e
-memory_alone (Ok xs) fault (inr e) good = cc
-memory_alone (Err other) fault (inr e) good = cc
+fault-is_memory_if_play_ok p fault (inl e) good = e
+fault-is_memory_if_play_ok (Ok xs) fault (inr e) good = cc
+fault-is_memory_if_play_ok (Err other) fault (inr e) good = cc
 
 -- Before the call at index i, the states represent slots from which the calls that are left return
 -- the rest of the digests.
-pub record Underway {S : Type 0} (m : Meaning S) (first : S) (calls : List Call)
+pub record IsPlayedUpTo {S : Type 0} (m : Meaning S) (first : S) (calls : List Call)
     (states : List (Option S))
     (digests : List (List ℕ)) (i : ℕ) : Type 0 where
   pub slots : Slots
@@ -40,25 +41,26 @@ pub record Underway {S : Type 0} (m : Meaning S) (first : S) (calls : List Call)
 
 module _ {S : Type 0} (m : Meaning S) (first : S) where
   -- The list from the call at index i on: that call, and then the later ones.
-  play_at : (call : Call) (calls : List Call) (slots : Slots) (i : ℕ) → i < length calls
+  play_from-first_and_rest : (call : Call) (calls : List Call) (slots : Slots) (i : ℕ)
+      → i < length calls
       → play_from m first (drop i calls) slots i
       ≡ followed_by (play_call m first slots i (get_or calls i call))
       (λ next. play_from m first (drop (i + 1) calls) next (i + 1))
-  play_at call calls slots i h =
+  play_from-first_and_rest call calls slots i h =
       let e : drop i calls ≡ get_or calls i call ∷ drop (i + 1) calls =
       rw add-one (drop-cons calls i call h) in
       ap (λ (cs : List Call). play_from m first cs slots i) e
 
   -- The call at index i went on.
-  pub play_on : (call : Call) (calls : List Call) (slots : Slots) (left : Outcome)
+  pub IsPlayedUpTo-next : (call : Call) (calls : List Call) (slots : Slots) (left : Outcome)
       (earlier digests : List (List ℕ)) (i : ℕ)
       (p : Played) → i < length calls → p ≡ after earlier (play_from m first (drop i calls) slots i)
       → play_call m first slots i (get_or calls i call) ≡ Ok left
       → digests ≡ earlier ++ left.digests
       → p ≡ after digests (play_from m first (drop (i + 1) calls) left.slots (i + 1))
-  play_on call calls slots left earlier digests i p h e on added =
+  IsPlayedUpTo-next call calls slots left earlier digests i p h e on added =
       let later : Slots → Played = λ next. play_from m first (drop (i + 1) calls) next (i + 1) in
-      e ∙ ap (after earlier) (play_at call calls slots i h
+      e ∙ ap (after earlier) (play_from-first_and_rest call calls slots i h
       ∙ ap (λ (r : Result Outcome ReplayFault). followed_by r later) on)
       ∙ sym (after-after earlier left.digests (later left.slots))
       ∙ ap (λ (ds : List (List ℕ)). after ds (later left.slots)) (sym added)
@@ -73,7 +75,7 @@ module _ {S : Type 0} (m : Meaning S) (first : S) where
   play_stops call calls slots earlier i p fault h e (inl memory) = inl memory
   play_stops call calls slots earlier i p fault h e (inr bad) =
       let later : Slots → Played = λ next. play_from m first (drop (i + 1) calls) next (i + 1) in
-      inr (e ∙ ap (after earlier) (play_at call calls slots i h
+      inr (e ∙ ap (after earlier) (play_from-first_and_rest call calls slots i h
       ∙ ap (λ (r : Result Outcome ReplayFault). followed_by r later) bad))
 
   -- All calls went on.

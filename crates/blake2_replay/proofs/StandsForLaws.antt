@@ -2,8 +2,8 @@
 use Rattle.std.proofs.Common.{◌≡◌, ℕ, Bool, List, [], ◌++◌, refl, sym, ap, ◌∙◌, arith}
 use Rattle.std.proofs.Common.{length-append, append_assoc}
 use Rattle.std.proofs.lemmas.List.{append-nil}
-use Rattle.blake2_digest.specs.States.{Meaning, digest_now, Updated, StartedAgain}
-use Rattle.blake2_replay.specs.Play.{Taken, since_beginning, since_reset, and_more}
+use Rattle.blake2_digest.specs.States.{Meaning, digest_now, Updated, ResetToStart}
+use Rattle.blake2_replay.specs.Play.{AbsorbedBytes, since_beginning, since_reset, absorb_more}
 use Rattle.blake2_replay.specs.Play.{digest_under, slot_digest}
 use Rattle.blake2_replay.specs.SlotStates.{StandsFor}
 
@@ -19,8 +19,8 @@ module _ {S : Type 0} (m : Meaning S) (first : S) where
   }
 
   -- A state that absorbs x represents a slot that absorbs x.
-  pub StandsFor-updated : (taken : Taken) (h n : S) (x : List ℕ) → StandsFor m first taken h
-      → Updated m h x n → StandsFor m first (and_more taken x) n
+  pub StandsFor-updated : (taken : AbsorbedBytes) (h n : S) (x : List ℕ) → StandsFor m first taken h
+      → Updated m h x n → StandsFor m first (absorb_more taken x) n
   StandsFor-updated (since_beginning b) h n x stands u = record {
     future = λ flag y. u.future flag y ∙ stands.future flag (x ++ y)
         ∙ ap (m.future first flag) (sym (append_assoc b x y));
@@ -39,7 +39,8 @@ module _ {S : Type 0} (m : Meaning S) (first : S) where
   }
 
   -- A state that was reset represents a slot that was reset.
-  pub StandsFor-reset : (taken : Taken) (h n : S) → StandsFor m first taken h → StartedAgain m h n
+  pub StandsFor-reset : (taken : AbsorbedBytes) (h n : S) → StandsFor m first taken h
+      → ResetToStart m h n
       → StandsFor m first (since_reset []) n
   StandsFor-reset taken h n stands again = record {
     future = λ flag y. again.future flag y ∙ stands.started flag y;
@@ -50,15 +51,15 @@ module _ {S : Type 0} (m : Meaning S) (first : S) where
   }
 
   -- A slot that absorbs nothing has the digest that it had.
-  digest-nothing : (flag : Bool) (taken : Taken)
-      → digest_under m first flag (and_more taken []) ≡ digest_under m first flag taken
+  digest-nothing : (flag : Bool) (taken : AbsorbedBytes)
+      → digest_under m first flag (absorb_more taken []) ≡ digest_under m first flag taken
   digest-nothing flag (since_beginning b) = ap (m.future first flag) (append-nil b)
   digest-nothing flag (since_reset b) = ap (m.started first flag) (append-nil b)
 
   -- The digest of a state is that of its slot.
-  pub digest_stands : (taken : Taken) (h : S) → StandsFor m first taken h
+  pub digest_now-is_slot_digest : (taken : AbsorbedBytes) (h : S) → StandsFor m first taken h
       → digest_now m h ≡ slot_digest m first taken
-  digest_stands taken h stands =
+  digest_now-is_slot_digest taken h stands =
       let flag : Bool = m.last_node first in
       ap (λ (own : Bool). m.future h own []) stands.last_node ∙ stands.future flag []
       ∙ digest-nothing flag taken

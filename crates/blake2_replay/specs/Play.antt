@@ -14,33 +14,33 @@ use Rattle.blake2_replay.specs.declared.calls.ReplayFault.{ReplayFault}
 use Rattle.blake2_replay.specs.declared.calls.ReplayFault.TheVariants.{NoSuchSlot, TooLong, Memory}
 
 -- The bytes that a slot has absorbed since the list of calls began, or since its last reset.
-pub data Taken : Type 0 where
-  since_beginning : List ℕ → Taken
-  since_reset : List ℕ → Taken
+pub data AbsorbedBytes : Type 0 where
+  since_beginning : List ℕ → AbsorbedBytes
+  since_reset : List ℕ → AbsorbedBytes
 
 -- What a slot has absorbed after it absorbs these bytes too.
-abbrev pub and_more : Taken → List ℕ → Taken
-and_more (since_beginning x) y = since_beginning (x ++ y)
-and_more (since_reset x) y = since_reset (x ++ y)
+abbrev pub absorb_more : AbsorbedBytes → List ℕ → AbsorbedBytes
+absorb_more (since_beginning x) y = since_beginning (x ++ y)
+absorb_more (since_reset x) y = since_reset (x ++ y)
 
 -- The digest of a slot under a last-node flag, if `first` is the first slot's initial state.
-abbrev pub digest_under : {S : Type 0} → Meaning S → S → Bool → Taken → List ℕ
+abbrev pub digest_under : {S : Type 0} → Meaning S → S → Bool → AbsorbedBytes → List ℕ
 digest_under m first flag (since_beginning x) = m.future first flag x
 digest_under m first flag (since_reset x) = m.started first flag x
 
 -- The digest of a slot. No call of a list sets the last-node flag, so the flag is that of the first
 -- state.
-abbrev pub slot_digest : {S : Type 0} → Meaning S → S → Taken → List ℕ
+abbrev pub slot_digest : {S : Type 0} → Meaning S → S → AbsorbedBytes → List ℕ
 slot_digest m first taken = digest_under m first (m.last_node first) taken
 
 -- The number of bytes that a slot has counted.
-abbrev pub count_of : {S : Type 0} → Meaning S → S → Taken → ℕ
+abbrev pub count_of : {S : Type 0} → Meaning S → S → AbsorbedBytes → ℕ
 count_of m first (since_beginning x) = m.count first + length x
 count_of m first (since_reset x) = m.start_count first + length x
 
 -- The slots in order. `None` is a slot that has ended.
 abbrev pub Slots : Type 0
-Slots = List (Option Taken)
+Slots = List (Option AbsorbedBytes)
 
 -- The outcome of a call: the slots that it leaves, and the digests that it returns.
 pub record Outcome : Type 0 where
@@ -56,35 +56,36 @@ slot_of (Finalize k) = k
 slot_of (FinalizeReset k) = k
 
 -- The outcome of a call that is not bad: it leaves these slots, and returns these digests.
-abbrev pub leaves : Slots → List (List ℕ) → Result Outcome ReplayFault
-leaves slots digests = Ok (record { slots = slots; digests = digests })
+abbrev pub ok_outcome : Slots → List (List ℕ) → Result Outcome ReplayFault
+ok_outcome slots digests = Ok (record { slots = slots; digests = digests })
 
 -- The outcome of the call at index i, whose slot has absorbed this. An update is bad if it would
 -- bring the count to 2^64 or above.
-abbrev pub play_live : {S : Type 0} → Meaning S → S → Slots → ℕ → Call → Taken
+abbrev pub play_live : {S : Type 0} → Meaning S → S → Slots → ℕ → Call → AbsorbedBytes
     → Result Outcome ReplayFault
 play_live m first slots i (Update k x) taken =
     if nat_lt (count_of m first taken + length x.now) (2 ^ 64)
-    then leaves (slice_set slots k (Some (and_more taken x.now))) []
+    then ok_outcome (slice_set slots k (Some (absorb_more taken x.now))) []
     else Err (TooLong i)
-play_live m first slots i (Clone k) taken = leaves (slots ++ Some taken ∷ []) []
-play_live m first slots i (Reset k) taken = leaves (slice_set slots k (Some (since_reset []))) []
+play_live m first slots i (Clone k) taken = ok_outcome (slots ++ Some taken ∷ []) []
+play_live m first slots i (Reset k) taken =
+    ok_outcome (slice_set slots k (Some (since_reset []))) []
 play_live m first slots i (Finalize k) taken =
-    leaves (slice_set slots k None) (slot_digest m first taken ∷ [])
+    ok_outcome (slice_set slots k None) (slot_digest m first taken ∷ [])
 play_live m first slots i (FinalizeReset k) taken =
-    leaves (slice_set slots k (Some (since_reset []))) (slot_digest m first taken ∷ [])
+    ok_outcome (slice_set slots k (Some (since_reset []))) (slot_digest m first taken ∷ [])
 
 -- The outcome that f has for what a slot has absorbed. The call at index i is bad if the slot is
 -- absent or has ended.
-abbrev pub at_slot : ℕ → Option Taken → (Taken → Result Outcome ReplayFault)
+abbrev pub outcome_at_slot : ℕ → Option AbsorbedBytes → (AbsorbedBytes → Result Outcome ReplayFault)
     → Result Outcome ReplayFault
-at_slot i None f = Err (NoSuchSlot i)
-at_slot i (Some taken) f = f taken
+outcome_at_slot i None f = Err (NoSuchSlot i)
+outcome_at_slot i (Some taken) f = f taken
 
 -- The outcome of the call at index i, on these slots.
 abbrev pub play_call : {S : Type 0} → Meaning S → S → Slots → ℕ → Call → Result Outcome ReplayFault
 play_call m first slots i call =
-    at_slot i (slice_index_or slots (slot_of call) None) (play_live m first slots i call)
+    outcome_at_slot i (slice_index_or slots (slot_of call) None) (play_live m first slots i call)
 
 -- The digests of earlier calls, followed by those of later ones, or the error of a later one.
 abbrev pub after : List (List ℕ) → Result (List (List ℕ)) ReplayFault

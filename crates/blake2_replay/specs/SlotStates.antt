@@ -2,7 +2,8 @@
 use Rattle.std.specs.Prelude.{◌≡◌, ⊤, ℕ, Bool, List, [], ◌∷◌, ◌++◌, ◌⊎◌, Option, Some, None}
 use Rattle.std.specs.Prelude.{Result, Ok, Err}
 use Rattle.blake2_digest.specs.States.{Meaning}
-use Rattle.blake2_replay.specs.Play.{Taken, Slots, Outcome, digest_under, count_of, and_more}
+use Rattle.blake2_replay.specs.Play.{AbsorbedBytes, Slots, Outcome, digest_under, count_of}
+use Rattle.blake2_replay.specs.Play.{absorb_more}
 use Rattle.blake2_replay.specs.Play.{play_call}
 use Rattle.blake2_replay.specs.declared.calls.Call.{Call}
 use Rattle.blake2_replay.specs.declared.calls.ReplayFault.{ReplayFault}
@@ -10,16 +11,17 @@ use Rattle.blake2_replay.specs.declared.calls.ReplayFault.TheVariants.{Memory}
 
 -- The state h represents a slot that has absorbed this, if `first` is the first slot's initial
 -- state.
-pub record StandsFor {S : Type 0} (m : Meaning S) (first : S) (taken : Taken) (h : S) : Type 0 where
+pub record StandsFor {S : Type 0} (m : Meaning S) (first : S) (taken : AbsorbedBytes) (h : S) : Type
+    0 where
   pub future : (flag : Bool) (y : List ℕ)
-      → m.future h flag y ≡ digest_under m first flag (and_more taken y)
+      → m.future h flag y ≡ digest_under m first flag (absorb_more taken y)
   pub started : (flag : Bool) (y : List ℕ) → m.started h flag y ≡ m.started first flag y
   pub last_node : m.last_node h ≡ m.last_node first
   pub count : m.count h ≡ count_of m first taken
   pub start_count : m.start_count h ≡ m.start_count first
 
 -- A slot has a state that represents it, and a slot that has ended has none.
-abbrev pub SlotHolds : {S : Type 0} → Meaning S → S → Option Taken → Option S → Type 0
+abbrev pub SlotHolds : {S : Type 0} → Meaning S → S → Option AbsorbedBytes → Option S → Type 0
 SlotHolds m first None None = ⊤
 SlotHolds m first None (Some h) = ⊥
 SlotHolds m first (Some taken) None = ⊥

@@ -2,7 +2,7 @@
 
 ghost use Rattle.std.specs.Prelude.{◌≡◌, ℕ, Bool, false, List, [], ◌∷◌, ◌++◌, ◌⊎◌, OnOk, IfOk};
 ghost use Rattle.std.specs.Prelude.{IfErr, IsOk, IsErr, IsOkUnless, Ok, Err};
-ghost use Rattle.blake2_digest.specs.States.{Fresh, AtStart};
+ghost use Rattle.blake2_digest.specs.States.{Fresh, IsAtStart};
 ghost use Rattle.blake2_replay.specs.Play.{play, NamesFirstBad, play_fresh, slot_of};
 ghost use Rattle.blake2_replay.specs.SlotStates.{PlaysCall};
 
@@ -146,11 +146,11 @@ where
     // The same holds for a state at its start with a last-node flag, such as that of the last
     // node of a level: each digest is the constructor's under the flag that the state has.
     ensures at_start { (digest : Bool → List ℕ → List ℕ) (n : ℕ)
-        → AtStart H.meaning digest n first
+        → IsAtStart H.meaning digest n first
         → IfOk result (λ digests.
         play_fresh (digest (H.meaning.last_node first)) n calls.now ≡ Ok digests.items) }
     ensures at_start_fault { (digest : Bool → List ℕ → List ℕ) (n : ℕ)
-        → AtStart H.meaning digest n first
+        → IsAtStart H.meaning digest n first
         → IfErr result (λ fault. (fault ≡ ReplayFault.Memory)
         ⊎ (play_fresh (digest (H.meaning.last_node first)) n calls.now ≡ Err fault)) }
 {

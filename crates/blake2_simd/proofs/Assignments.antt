@@ -19,8 +19,9 @@ minus f v a b x = set v a (((slice_index v a + (2 ^ bits (word f) - slice_index 
     (word f) + (2 ^ bits (word f) - x)) % 2 ^ bits (word f))
 
 -- v after v[c] := (v[c] - v[d]) mod 2^w.
-abbrev pub less : Family → List ℕ → ℕ → ℕ → List ℕ
-less f v c d = set v c ((slice_index v c + (2 ^ bits (word f) - slice_index v d)) % 2 ^ bits
+abbrev pub subtract_word : Family → List ℕ → ℕ → ℕ → List ℕ
+subtract_word f v c d =
+    set v c ((slice_index v c + (2 ^ bits (word f) - slice_index v d)) % 2 ^ bits
     (word f))
 
 -- v after v[d] := (v[d] <<< r) ^ v[a].
@@ -73,77 +74,84 @@ xor_twice a b = xor_assoc a b b ∙ ap (bit_xor a) (xor_self b) ∙ xor_zero_r a
 
 -- A second write at the index of the first, of a number x made of the first one and the word at
 -- another index.
-written_twice : (v : List ℕ) (a b p : ℕ) (g : ℕ → ℕ → ℕ) → a < length v → b ≢ a
+set_twice-combines : (v : List ℕ) (a b p : ℕ) (g : ℕ → ℕ → ℕ) → a < length v → b ≢ a
     → set (set v a p) a (g (slice_index (set v a p) a) (slice_index (set v a p) b))
     ≡ set v a (g p (slice_index v b))
-written_twice v a b p g fits other =
+set_twice-combines v a b p g fits other =
     rw (get_or-set_same v a p 0 fits, get_or-set_other v a b p 0 other)
     (set-set v a p (g p (slice_index v b)))
 
 -- The assignment of a word p to v[a] is undone by that of g v[a] v[b], if this is what was there.
-assigned : (f : Family) (v : List ℕ) (a b p : ℕ) (g : ℕ → ℕ → ℕ) → AreWords f v
+assignment_undone : (f : Family) (v : List ℕ) (a b p : ℕ) (g : ℕ → ℕ → ℕ) → AreWords f v
     → p < 2 ^ bits (word f) → a < length v → b ≢ a → g p (slice_index v b) ≡ slice_index v a
     → Undoes f v (set v a p) (λ w. set w a (g (slice_index w a) (slice_index w b)))
-assigned f v a b p g words low fits other same = record {
+assignment_undone f v a b p g words low fits other same = record {
   words = AreWords-set f v a p words low;
   long = length-set v a p;
-  undone = written_twice v a b p g fits other ∙ ap (set v a) same ∙ set-get_or v a 0;
+  undone = set_twice-combines v a b p g fits other ∙ ap (set v a) same ∙ set-get_or v a 0;
 }
 
 -- A number modulo 2^w is a word.
-reduced : (f : Family) (n : ℕ) → n % 2 ^ bits (word f) < 2 ^ bits (word f)
-reduced f n = mod-lt n (pow_pos (bits (word f)))
+mod_width-is_word : (f : Family) (n : ℕ) → n % 2 ^ bits (word f) < 2 ^ bits (word f)
+mod_width-is_word f n = mod-lt n (pow_pos (bits (word f)))
 
 -- The assignment v[a] := v[a] + v[b] + x is undone by `minus`.
-pub plus_step : (f : Family) (v : List ℕ) (a b x : ℕ) → AreWords f v → x < 2 ^ bits (word f)
+pub minus_undoes_plus : (f : Family) (v : List ℕ) (a b x : ℕ) → AreWords f v → x < 2 ^ bits (word f)
     → a < length v → b ≢ a
     → Undoes f v (plus f v a b x) (λ w. minus f w a b x)
-plus_step f v a b x words low fits other =
+minus_undoes_plus f v a b x words low fits other =
     let m : ℕ = 2 ^ bits (word f) in
-    assigned f v a b _ (λ p q. ((p + (m - q)) % m + (m - x)) % m) words (reduced f _) fits other
+    assignment_undone f v a b _ (λ p q. ((p + (m - q)) % m + (m - x)) % m) words
+    (mod_width-is_word f _) fits other
     (sum_undone f _ _ x (words a) (words b) low)
 
 -- `minus` is undone by v[a] := v[a] + v[b] + x.
-pub minus_step : (f : Family) (v : List ℕ) (a b x : ℕ) → AreWords f v → x < 2 ^ bits (word f)
+pub plus_undoes_minus : (f : Family) (v : List ℕ) (a b x : ℕ) → AreWords f v → x < 2 ^ bits (word f)
     → a < length v → b ≢ a
     → Undoes f v (minus f v a b x) (λ w. plus f w a b x)
-minus_step f v a b x words low fits other =
-    assigned f v a b _ (λ p q. (p + q + x) % 2 ^ bits (word f)) words (reduced f _) fits other
+plus_undoes_minus f v a b x words low fits other =
+    assignment_undone f v a b _ (λ p q. (p + q + x) % 2 ^ bits (word f)) words
+    (mod_width-is_word f _) fits other
     (difference_undone f _ _ x (words a) (words b) low)
 
--- The assignment v[c] := v[c] + v[d] is undone by `less`.
-pub single_plus_step : (f : Family) (v : List ℕ) (c d : ℕ) → AreWords f v → c < length v → d ≢ c
-    → Undoes f v (plus f v c d 0) (λ w. less f w c d)
-single_plus_step f v c d words fits other =
+-- The assignment v[c] := v[c] + v[d] is undone by `subtract_word`.
+pub subtract_word_undoes_plus : (f : Family) (v : List ℕ) (c d : ℕ) → AreWords f v → c < length v
+    → d ≢ c
+    → Undoes f v (plus f v c d 0) (λ w. subtract_word f w c d)
+subtract_word_undoes_plus f v c d words fits other =
     let m : ℕ = 2 ^ bits (word f) in
-    assigned f v c d _ (λ p q. (p + (m - q)) % m) words (reduced f _) fits other
+    assignment_undone f v c d _ (λ p q. (p + (m - q)) % m) words (mod_width-is_word f _) fits other
     (single_sum_undone f _ _ (words c) (words d))
 
--- `less` is undone by v[c] := v[c] + v[d].
-pub less_step : (f : Family) (v : List ℕ) (c d : ℕ) → AreWords f v → c < length v → d ≢ c
-    → Undoes f v (less f v c d) (λ w. plus f w c d 0)
-less_step f v c d words fits other =
-    assigned f v c d _ (λ p q. (p + q + 0) % 2 ^ bits (word f)) words (reduced f _) fits other
+-- `subtract_word` is undone by v[c] := v[c] + v[d].
+pub plus_undoes_subtract_word : (f : Family) (v : List ℕ) (c d : ℕ) → AreWords f v → c < length v
+    → d ≢ c
+    → Undoes f v (subtract_word f v c d) (λ w. plus f w c d 0)
+plus_undoes_subtract_word f v c d words fits other =
+    assignment_undone f v c d _ (λ p q. (p + q + 0) % 2 ^ bits (word f)) words
+    (mod_width-is_word f _) fits other
     (single_difference_undone f _ _ (words c) (words d))
 
 -- The assignment v[d] := (v[d] ^ v[a]) >>> r is undone by `unrotate`.
-pub rotate_step : (f : Family) (v : List ℕ) (d a r : ℕ) → AreWords f v → d < length v → a ≢ d
+pub unrotate_undoes_rotate : (f : Family) (v : List ℕ) (d a r : ℕ) → AreWords f v → d < length v
+    → a ≢ d
     → Undoes f v (rotate f v d a r) (λ w. unrotate f w d a r)
-rotate_step f v d a r words fits other =
+unrotate_undoes_rotate f v d a r words fits other =
     let x : ℕ = slice_index v d in
     let y : ℕ = slice_index v a in
     let low : bit_xor x y < 2 ^ bits (word f) = xor_lt (bits (word f)) x y (words d) (words a) in
-    assigned f v d a _ (λ p q. bit_xor (rotate_left (word f) p r) q) words
+    assignment_undone f v d a _ (λ p q. bit_xor (rotate_left (word f) p r) q) words
     (rotate_right-lt f _ r low) fits other
     (ap (λ p. bit_xor p y) (rotate_left-rotate_right f (bit_xor x y) r low) ∙ xor_twice x y)
 
 -- `unrotate` is undone by v[d] := (v[d] ^ v[a]) >>> r.
-pub unrotate_step : (f : Family) (v : List ℕ) (d a r : ℕ) → AreWords f v → d < length v → a ≢ d
+pub rotate_undoes_unrotate : (f : Family) (v : List ℕ) (d a r : ℕ) → AreWords f v → d < length v
+    → a ≢ d
     → Undoes f v (unrotate f v d a r) (λ w. rotate f w d a r)
-unrotate_step f v d a r words fits other =
+rotate_undoes_unrotate f v d a r words fits other =
     let x : ℕ = slice_index v d in
     let y : ℕ = slice_index v a in
-    assigned f v d a _ (λ p q. rotate_right (word f) (bit_xor p q) r) words
+    assignment_undone f v d a _ (λ p q. rotate_right (word f) (bit_xor p q) r) words
     (xor_lt (bits (word f)) _ y (rotate_left-lt f x r (words d)) (words a)) fits other
     (ap (λ p. rotate_right (word f) p r) (xor_twice (rotate_left (word f) x r) y)
     ∙ rotate_right-rotate_left f x r (words d))

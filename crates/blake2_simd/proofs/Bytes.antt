@@ -14,9 +14,9 @@ use Rattle.blake2_simd.specs.Round.{AreWords}
 use Rattle.blake2_simd.specs.Rows.{four, word_at, lane_bytes}
 
 -- A word has the same number of values as its bytes have together.
-pub words_counted : (f : Family) → 2 ^ bits (word f) ≡ 256 ^ word_bytes f
-words_counted blake2b = refl
-words_counted blake2s = refl
+pub word_values-by_bytes : (f : Family) → 2 ^ bits (word f) ≡ 256 ^ word_bytes f
+word_values-by_bytes blake2b = refl
+word_values-by_bytes blake2s = refl
 
 -- ---- from bytes to lanes
 
@@ -41,10 +41,11 @@ number_l-word blake2s xs long =
     omega (arith, at 0, at 1, at 2, at 3, rest)
 
 -- The lanes of a vector that was loaded from the bytes of four words.
-pub lanes_read : (f : Family) (n : ℕ) (xs : List ℕ) → n ≡ 4 * word_bytes f → length xs ≡ n
+pub loaded_bytes-as_lanes : (f : Family) (n : ℕ) (xs : List ℕ) → n ≡ 4 * word_bytes f
+    → length xs ≡ n
     → ((i : ℕ) → Fits w8 (get_or xs i 0))
     → digits_l (2 ^ bits (word f)) 4 (number_l 256 (chunk 0 n xs)) ≡ four (λ j. word_at f xs j)
-lanes_read f n xs size long fits =
+loaded_bytes-as_lanes f n xs size long fits =
     let k : ℕ = word_bytes f in
     let q : ℕ = 2 ^ bits (word f) in
     let below : Each1 (λ x. x < 256) (chunk 0 n xs) =
@@ -53,7 +54,7 @@ lanes_read f n xs size long fits =
     let at : (j : ℕ) → j < 4 → k * j + k ≤ length xs
     → get_or (digits_l q 4 (number_l 256 (chunk 0 n xs))) j 0 ≡ word_at f xs j =
     λ j low fit.
-    get_or_wider 256 k q 4 (chunk 0 n xs) j (words_counted f) below low
+    get_or_wider 256 k q 4 (chunk 0 n xs) j (word_values-by_bytes f) below low
     ∙ ap (λ ys. number_l 256 (chunk (k * j) k ys)) whole
     ∙ number_l-word f (chunk (k * j) k xs) (length-chunk (k * j) k xs fit) in
     λ i. at 0 (omega arith) (omega arith) i ∷ at 1 (omega arith) (omega arith) i
@@ -62,9 +63,9 @@ lanes_read f n xs size long fits =
 -- ---- from lanes to bytes
 
 -- Byte i of a number, also if it is the lowest.
-byte_at_digit : (i n : ℕ) → byte_at i n ≡ n / 256 ^ i % 256
-byte_at_digit zero n = ap (λ m. m % 256) (sym (div-one n))
-byte_at_digit (suc i) n = refl
+byte_at-is_digit : (i n : ℕ) → byte_at i n ≡ n / 256 ^ i % 256
+byte_at-is_digit zero n = ap (λ m. m % 256) (sym (div-one n))
+byte_at-is_digit (suc i) n = refl
 
 -- The bytes from index i on are the digits of what is left of the number there.
 bytes_are_digits : (k i n : ℕ) → bytes_low_first i k n ≡ digits_l 256 k (n / 256 ^ i)
@@ -72,7 +73,7 @@ bytes_are_digits zero i n = refl
 bytes_are_digits (suc k) i n =
     let next : n / 256 ^ suc i ≡ n / 256 ^ i / 256 =
     ap (λ p. n / p) (pow-suc 256 i) ∙ sym (div-div-eq-div-mul n (256 ^ i) 256) in
-    λ t. byte_at_digit i n t ∷ (bytes_are_digits k (suc i) n ∙ ap (digits_l 256 k) next) t
+    λ t. byte_at-is_digit i n t ∷ (bytes_are_digits k (suc i) n ∙ ap (digits_l 256 k) next) t
 
 -- The k + n digits of a number below q ^ k with others above it.
 digits_l-add : (q k n x y : ℕ) → 0 < q → x < q ^ k
@@ -93,22 +94,26 @@ digits_l-add q (suc k) n x y some low =
     ∙ digits_l-add q k n (x / q) y some below) i)
 
 -- The bytes of a word are its digits.
-word_digits : (f : Family) (n : ℕ) → digits_l 256 (word_bytes f) n ≡ to_le_bytes (word f) n
-word_digits blake2b n = ap (digits_l 256 8) (sym (div-one n)) ∙ sym (bytes_are_digits 8 0 n)
-word_digits blake2s n = ap (digits_l 256 4) (sym (div-one n)) ∙ sym (bytes_are_digits 4 0 n)
+digits_l-are_le_bytes : (f : Family) (n : ℕ)
+    → digits_l 256 (word_bytes f) n ≡ to_le_bytes (word f) n
+digits_l-are_le_bytes blake2b n =
+    ap (digits_l 256 8) (sym (div-one n)) ∙ sym (bytes_are_digits 8 0 n)
+digits_l-are_le_bytes blake2s n =
+    ap (digits_l 256 4) (sym (div-one n)) ∙ sym (bytes_are_digits 4 0 n)
 
 -- The bytes that a vector of words writes are those of its lanes.
-pub lanes_written : (f : Family) (n : ℕ) (xs : List ℕ) → n ≡ word_bytes f * length xs
+pub digits_l-are_lane_bytes : (f : Family) (n : ℕ) (xs : List ℕ) → n ≡ word_bytes f * length xs
     → AreWords f xs
     → digits_l 256 n (number_l (2 ^ bits (word f)) xs) ≡ lane_bytes f xs
-lanes_written f n [] size words = rw (size, mul-zero (word_bytes f)) refl
-lanes_written f n (x ∷ xs) size words =
+digits_l-are_lane_bytes f n [] size words = rw (size, mul-zero (word_bytes f)) refl
+digits_l-are_lane_bytes f n (x ∷ xs) size words =
     let k : ℕ = word_bytes f in
     let q : ℕ = 2 ^ bits (word f) in
     let more : n ≡ k + k * length xs = size ∙ rw (mul-suc k (length xs)) (omega arith) in
-    let low : x < 256 ^ k = rw (words_counted f) at words 0 in
+    let low : x < 256 ^ k = rw (word_values-by_bytes f) at words 0 in
     rw more (
-    ap (λ p. digits_l 256 (k + k * length xs) (x + p * number_l q xs)) (words_counted f)
+    ap (λ p. digits_l 256 (k + k * length xs) (x + p * number_l q xs)) (word_values-by_bytes f)
     ∙ digits_l-add 256 k (k * length xs) x (number_l q xs) (lit< tt) low
-    ∙ (λ i. word_digits f x i ++ lanes_written f (k * length xs) xs refl (λ j. words (suc j)) i)
+    ∙ (λ i. digits_l-are_le_bytes f x i ++ digits_l-are_lane_bytes f (k * length xs) xs refl
+    (λ j. words (suc j)) i)
     )

@@ -4,15 +4,18 @@ use Rattle.std.proofs.Common.{arith, lit<}
 use mir.Val.{bits}
 use Rattle.blake2_simd.specs.Family.{Family, word, rotations}
 use Rattle.blake2_simd.specs.Round.{AreWords, mix, round}
-use Rattle.blake2_simd.proofs.Assignments.{minus, less, unrotate, Undoes, plus_step, minus_step}
-use Rattle.blake2_simd.proofs.Assignments.{single_plus_step, less_step, rotate_step, unrotate_step}
+use Rattle.blake2_simd.proofs.Assignments.{minus, subtract_word, unrotate, Undoes}
+use Rattle.blake2_simd.proofs.Assignments.{minus_undoes_plus, plus_undoes_minus}
+use Rattle.blake2_simd.proofs.Assignments.{subtract_word_undoes_plus, plus_undoes_subtract_word}
+use Rattle.blake2_simd.proofs.Assignments.{unrotate_undoes_rotate, rotate_undoes_unrotate}
 
 -- ---- G
 
 -- Two steps are undone, the last first.
-in_turn : (f : Family) {u v w : List ℕ} {g h : List ℕ → List ℕ} → Undoes f u v g → Undoes f v w h
+Undoes-compose : (f : Family) {u v w : List ℕ} {g h : List ℕ → List ℕ} → Undoes f u v g
+    → Undoes f v w h
     → Undoes f u w (λ z. g (h z))
-in_turn f {g = g} s t = record {
+Undoes-compose f {g = g} s t = record {
   words = t.words;
   long = t.long ∙ s.long;
   undone = ap g t.undone ∙ s.undone;
@@ -22,54 +25,74 @@ in_turn f {g = g} s t = record {
 unfoldable pub unmix : Family → List ℕ → ℕ → ℕ → ℕ → ℕ → ℕ → ℕ → List ℕ
 unmix f v a b c d x y =
     let v7 = unrotate f v b c (slice_index (rotations f) 3) in
-    let v6 = less f v7 c d in
+    let v6 = subtract_word f v7 c d in
     let v5 = unrotate f v6 d a (slice_index (rotations f) 2) in
     let v4 = minus f v5 a b y in
     let v3 = unrotate f v4 b c (slice_index (rotations f) 1) in
-    let v2 = less f v3 c d in
+    let v2 = subtract_word f v3 c d in
     let v1 = unrotate f v2 d a (slice_index (rotations f) 0) in
     minus f v1 a b x
 
 -- G is undone by `unmix`.
-mix_step : (f : Family) (v : List ℕ) (a b c d x y : ℕ) → AreWords f v → x < 2 ^ bits (word f)
+unmix_undoes_mix : (f : Family) (v : List ℕ) (a b c d x y : ℕ) → AreWords f v
+    → x < 2 ^ bits (word f)
     → y < 2 ^ bits (word f)
     → a < b → b < c → c < d → d < length v → Undoes f v (mix f v a b c d x y)
     (λ w. unmix f w a b c d x y)
 unfolding mix unmix
-mix_step f v a b c d x y words lx ly ab bc cd fits =
+unmix_undoes_mix f v a b c d x y words lx ly ab bc cd fits =
     let r : ℕ → ℕ = λ i. slice_index (rotations f) i in
-    let s1 = plus_step f v a b x words lx (omega arith) (omega arith) in
-    let s2 = in_turn f s1 (rotate_step f _ d a (r 0) s1.words (omega arith) (omega arith)) in
-    let s3 = in_turn f s2 (single_plus_step f _ c d s2.words (omega arith) (omega arith)) in
-    let s4 = in_turn f s3 (rotate_step f _ b c (r 1) s3.words (omega arith) (omega arith)) in
-    let s5 = in_turn f s4 (plus_step f _ a b y s4.words ly (omega arith) (omega arith)) in
-    let s6 = in_turn f s5 (rotate_step f _ d a (r 2) s5.words (omega arith) (omega arith)) in
-    let s7 = in_turn f s6 (single_plus_step f _ c d s6.words (omega arith) (omega arith)) in
-    in_turn f s7 (rotate_step f _ b c (r 3) s7.words (omega arith) (omega arith))
+    let s1 = minus_undoes_plus f v a b x words lx (omega arith) (omega arith) in
+    let s2 =
+    Undoes-compose f s1 (unrotate_undoes_rotate f _ d a (r 0) s1.words (omega arith)
+    (omega arith)) in
+    let s3 =
+    Undoes-compose f s2 (subtract_word_undoes_plus f _ c d s2.words (omega arith) (omega arith)) in
+    let s4 =
+    Undoes-compose f s3 (unrotate_undoes_rotate f _ b c (r 1) s3.words (omega arith)
+    (omega arith)) in
+    let s5 =
+    Undoes-compose f s4 (minus_undoes_plus f _ a b y s4.words ly (omega arith) (omega arith)) in
+    let s6 =
+    Undoes-compose f s5 (unrotate_undoes_rotate f _ d a (r 2) s5.words (omega arith)
+    (omega arith)) in
+    let s7 =
+    Undoes-compose f s6 (subtract_word_undoes_plus f _ c d s6.words (omega arith) (omega arith)) in
+    Undoes-compose f s7 (unrotate_undoes_rotate f _ b c (r 3) s7.words (omega arith) (omega arith))
 
 -- `unmix` is undone by G.
-unmix_step : (f : Family) (v : List ℕ) (a b c d x y : ℕ) → AreWords f v → x < 2 ^ bits (word f)
+mix_undoes_unmix : (f : Family) (v : List ℕ) (a b c d x y : ℕ) → AreWords f v
+    → x < 2 ^ bits (word f)
     → y < 2 ^ bits (word f)
     → a < b → b < c → c < d → d < length v → Undoes f v (unmix f v a b c d x y)
     (λ w. mix f w a b c d x y)
 unfolding mix unmix
-unmix_step f v a b c d x y words lx ly ab bc cd fits =
+mix_undoes_unmix f v a b c d x y words lx ly ab bc cd fits =
     let r : ℕ → ℕ = λ i. slice_index (rotations f) i in
-    let s1 = unrotate_step f v b c (r 3) words (omega arith) (omega arith) in
-    let s2 = in_turn f s1 (less_step f _ c d s1.words (omega arith) (omega arith)) in
-    let s3 = in_turn f s2 (unrotate_step f _ d a (r 2) s2.words (omega arith) (omega arith)) in
-    let s4 = in_turn f s3 (minus_step f _ a b y s3.words ly (omega arith) (omega arith)) in
-    let s5 = in_turn f s4 (unrotate_step f _ b c (r 1) s4.words (omega arith) (omega arith)) in
-    let s6 = in_turn f s5 (less_step f _ c d s5.words (omega arith) (omega arith)) in
-    let s7 = in_turn f s6 (unrotate_step f _ d a (r 0) s6.words (omega arith) (omega arith)) in
-    in_turn f s7 (minus_step f _ a b x s7.words lx (omega arith) (omega arith))
+    let s1 = rotate_undoes_unrotate f v b c (r 3) words (omega arith) (omega arith) in
+    let s2 =
+    Undoes-compose f s1 (plus_undoes_subtract_word f _ c d s1.words (omega arith) (omega arith)) in
+    let s3 =
+    Undoes-compose f s2 (rotate_undoes_unrotate f _ d a (r 2) s2.words (omega arith)
+    (omega arith)) in
+    let s4 =
+    Undoes-compose f s3 (plus_undoes_minus f _ a b y s3.words ly (omega arith) (omega arith)) in
+    let s5 =
+    Undoes-compose f s4 (rotate_undoes_unrotate f _ b c (r 1) s4.words (omega arith)
+    (omega arith)) in
+    let s6 =
+    Undoes-compose f s5 (plus_undoes_subtract_word f _ c d s5.words (omega arith) (omega arith)) in
+    let s7 =
+    Undoes-compose f s6 (rotate_undoes_unrotate f _ d a (r 0) s6.words (omega arith)
+    (omega arith)) in
+    Undoes-compose f s7 (plus_undoes_minus f _ a b x s7.words lx (omega arith) (omega arith))
 
 -- G maps the words that undoing G leaves to the words that were given.
 pub mix-unmix : (f : Family) (v : List ℕ) (a b c d x y : ℕ) → AreWords f v → x < 2 ^ bits (word f)
     → y < 2 ^ bits (word f)
     → a < b → b < c → c < d → d < length v → mix f (unmix f v a b c d x y) a b c d x y ≡ v
 mix-unmix f v a b c d x y words lx ly ab bc cd fits =
-    (unmix_step f v a b c d x y words lx ly ab bc cd fits).undone
+    (mix_undoes_unmix f v a b c d x y words lx ly ab bc cd fits).undone
 
 -- ---- the round
 
@@ -87,34 +110,46 @@ unround f m s v =
     unmix f v1 0 4 8 12 (at 0) (at 1)
 
 -- A mixing of a round after others, with the words of m at the indices that are at i and j of s.
-drawn_step : {f : Family} {u v : List ℕ} {g : List ℕ → List ℕ} (m s : List ℕ) (a b c d i j : ℕ)
+unmix_undoes_next_mix : {f : Family} {u v : List ℕ} {g : List ℕ → List ℕ} (m s : List ℕ)
+    (a b c d i j : ℕ)
     → AreWords f m → length u ≡ 16 → a < b → b < c → c < d → d < 16 → Undoes f u v g
     → (let x = slice_index m (slice_index s i) in let y = slice_index m (slice_index s j) in
     Undoes f u (mix f v a b c d x y) (λ w. g (unmix f w a b c d x y)))
-drawn_step {f} {v = v} m s a b c d i j from_m long ab bc cd low before =
-    in_turn f before (mix_step f v a b c d _ _ before.words (from_m _) (from_m _) ab bc cd
+unmix_undoes_next_mix {f} {v = v} m s a b c d i j from_m long ab bc cd low before =
+    Undoes-compose f before (unmix_undoes_mix f v a b c d _ _ before.words (from_m _) (from_m _) ab
+    bc cd
     (omega (arith, before.long)))
 
 -- A round is undone by `unround`.
-round_step : (f : Family) (v m s : List ℕ) → AreWords f v → AreWords f m → length v ≡ 16
+unround_undoes_round : (f : Family) (v m s : List ℕ) → AreWords f v → AreWords f m → length v ≡ 16
     → Undoes f v (round f v m s) (unround f m s)
 unfolding round unround
-round_step f v m s words from_m long =
+unround_undoes_round f v m s words from_m long =
     let s0 : Undoes f v v (λ w. w) = record { words = words; long = refl; undone = refl } in
-    let s1 = drawn_step m s 0 4 8 12 0 1 from_m long (lit< tt) (lit< tt) (lit< tt) (lit< tt) s0 in
-    let s2 = drawn_step m s 1 5 9 13 2 3 from_m long (lit< tt) (lit< tt) (lit< tt) (lit< tt) s1 in
-    let s3 = drawn_step m s 2 6 10 14 4 5 from_m long (lit< tt) (lit< tt) (lit< tt) (lit< tt) s2 in
-    let s4 = drawn_step m s 3 7 11 15 6 7 from_m long (lit< tt) (lit< tt) (lit< tt) (lit< tt) s3 in
-    let s5 = drawn_step m s 0 5 10 15 8 9 from_m long (lit< tt) (lit< tt) (lit< tt) (lit< tt) s4 in
-    let s6 = drawn_step m s 1 6 11 12 10 11 from_m long (lit< tt) (lit< tt) (lit< tt)
+    let s1 =
+    unmix_undoes_next_mix m s 0 4 8 12 0 1 from_m long (lit< tt) (lit< tt) (lit< tt) (lit< tt) s0 in
+    let s2 =
+    unmix_undoes_next_mix m s 1 5 9 13 2 3 from_m long (lit< tt) (lit< tt) (lit< tt) (lit< tt) s1 in
+    let s3 =
+    unmix_undoes_next_mix m s 2 6 10 14 4 5 from_m long (lit< tt) (lit< tt) (lit< tt) (lit< tt)
+    s2 in
+    let s4 =
+    unmix_undoes_next_mix m s 3 7 11 15 6 7 from_m long (lit< tt) (lit< tt) (lit< tt) (lit< tt)
+    s3 in
+    let s5 =
+    unmix_undoes_next_mix m s 0 5 10 15 8 9 from_m long (lit< tt) (lit< tt) (lit< tt) (lit< tt)
+    s4 in
+    let s6 = unmix_undoes_next_mix m s 1 6 11 12 10 11 from_m long (lit< tt) (lit< tt) (lit< tt)
     (lit< tt) s5 in
-    let s7 = drawn_step m s 2 7 8 13 12 13 from_m long (lit< tt) (lit< tt) (lit< tt) (lit< tt) s6 in
-    drawn_step m s 3 4 9 14 14 15 from_m long (lit< tt) (lit< tt) (lit< tt) (lit< tt) s7
+    let s7 =
+    unmix_undoes_next_mix m s 2 7 8 13 12 13 from_m long (lit< tt) (lit< tt) (lit< tt) (lit< tt)
+    s6 in
+    unmix_undoes_next_mix m s 3 4 9 14 14 15 from_m long (lit< tt) (lit< tt) (lit< tt) (lit< tt) s7
 
 -- For given m and s, a round maps different lists of sixteen words to different lists.
 pub round_injective : (f : Family) (u v m s : List ℕ) → AreWords f u → AreWords f v → AreWords f m
     → length u ≡ 16 → length v ≡ 16
     → round f u m s ≡ round f v m s → u ≡ v
 round_injective f u v m s words_u words_v from_m long_u long_v same =
-    sym ((round_step f u m s words_u from_m long_u).undone) ∙ ap (unround f m s) same
-    ∙ (round_step f v m s words_v from_m long_v).undone
+    sym ((unround_undoes_round f u m s words_u from_m long_u).undone) ∙ ap (unround f m s) same
+    ∙ (unround_undoes_round f v m s words_v from_m long_v).undone

@@ -8,14 +8,16 @@ use Rattle.blake2_simd.specs.Round.{AreWords}
 use Rattle.blake2_compress.specs.Hash.{words_of}
 use Rattle.blake2_compress.proofs.ByteSizes.{AreBytes-drop, AreBytes-take, length-words_of}
 use Rattle.blake2_digest.specs.Texts.{AreBytes, padded}
-use Rattle.blake2_state.specs.Blake2b.{CanBeSaved, HoldsNoMore, saved_bytes, state_of}
+use Rattle.blake2_state.specs.Blake2b.{CanBeSaved, HoldsOnlySavedData, saved_bytes, state_of}
 use Rattle.blake2_state.specs.SavedStates.{IsSavable, IsSavedState, flag_byte}
 use Rattle.blake2_state.specs.States.{is_on, named_key_size}
 use Rattle.blake2_state.specs.declared.blake2b.State.{State}
-use Rattle.blake2_state.proofs.SavedLaws.{AreWords-words_of, Reads, read, saved_reads, saved_again}
+use Rattle.blake2_state.proofs.SavedLaws.{AreWords-words_of, BytesDecodeTo}
+use Rattle.blake2_state.proofs.SavedLaws.{encoding-decodes_to_state, saved_bytes-decode_to_state}
+use Rattle.blake2_state.proofs.SavedLaws.{encoding-of_decoded_state}
 
 -- What the type of a state says of its fields.
-pub record HasFields (s : State) : Type 0 where
+pub record HasWellTypedFields (s : State) : Type 0 where
   pub chain_length : length s.chain ≡ 8
   pub chain : AreWords blake2b s.chain
   pub first_length : length s.first ≡ 8
@@ -24,16 +26,16 @@ pub record HasFields (s : State) : Type 0 where
   pub pending : AreBytes s.pending
 
 -- The pending bytes have their length.
-pending_taken : (s : State) → length s.pending ≡ 128 → s.pending_length ≤ 128
+length-taken_pending : (s : State) → length s.pending ≡ 128 → s.pending_length ≤ 128
     → length (take s.pending_length s.pending) ≡ s.pending_length
-pending_taken s long h = length-take-le s.pending_length s.pending (omega (arith, long, h))
+length-taken_pending s long h = length-take-le s.pending_length s.pending (omega (arith, long, h))
 
 -- A state that can be saved, in the terms of both families.
-pub savable : (s : State) → HasFields s → CanBeSaved s
+pub CanBeSaved-is_savable : (s : State) → HasWellTypedFields s → CanBeSaved s
     → IsSavable blake2b s.output_size (state_of s)
-savable s t h =
+CanBeSaved-is_savable s t h =
     let l : length (take s.pending_length s.pending) ≡ s.pending_length =
-    pending_taken s t.pending_length h.ready.pending in
+    length-taken_pending s t.pending_length h.ready.pending in
     record {
       least = h.ready.least;
       most = h.ready.most;
@@ -63,9 +65,9 @@ decoded bytes = record {
 }
 
 -- Its fields are of their types.
-pub decoded_has_fields : (bytes : List ℕ) → length bytes ≡ 275 → AreBytes bytes
-    → HasFields (decoded bytes)
-decoded_has_fields bytes whole a = record {
+pub decoded-has_well_typed_fields : (bytes : List ℕ) → length bytes ≡ 275 → AreBytes bytes
+    → HasWellTypedFields (decoded bytes)
+decoded-has_well_typed_fields bytes whole a = record {
   chain_length = length-words_of blake2b 8 (take 64 (drop 8 bytes));
   chain = AreWords-words_of blake2b 8 (take 64 (drop 8 bytes))
       (AreBytes-take 64 (drop 8 bytes) (AreBytes-drop 8 bytes a));
@@ -77,10 +79,11 @@ decoded_has_fields bytes whole a = record {
 }
 
 -- If they are those of a saved state, it can be saved.
-pub decoded_can_be_saved : (bytes : List ℕ) → IsSavedState blake2b bytes
+pub decoded-can_be_saved : (bytes : List ℕ) → IsSavedState blake2b bytes
     → CanBeSaved (decoded bytes)
-decoded_can_be_saved bytes a =
-    let r : Reads blake2b a.size a.state bytes = saved_reads blake2b bytes a in
+decoded-can_be_saved bytes a =
+    let r : BytesDecodeTo blake2b a.size a.state bytes =
+    saved_bytes-decode_to_state blake2b bytes a in
     let h : IsSavable blake2b a.size a.state = a.savable in
     let key : named_key_size blake2b (decoded bytes).first ≡ 0 =
     ap (named_key_size blake2b) r.first ∙ h.keyless in
@@ -97,26 +100,26 @@ decoded_can_be_saved bytes a =
     }
 
 -- And it is saved as these bytes.
-pub decoded_is_saved_as : (bytes : List ℕ) → IsSavedState blake2b bytes
+pub decoded-is_saved_as_bytes : (bytes : List ℕ) → IsSavedState blake2b bytes
     → saved_bytes (decoded bytes) ≡ bytes
-decoded_is_saved_as bytes a = saved_again blake2b bytes a
+decoded-is_saved_as_bytes bytes a = encoding-of_decoded_state blake2b bytes a
 
 -- A flag's byte is at most 1.
-flag_byte_most : (on : Bool) → flag_byte on ≤ 1
-flag_byte_most true = omega arith
-flag_byte_most false = omega arith
+flag_byte-at_most_1 : (on : Bool) → flag_byte on ≤ 1
+flag_byte-at_most_1 true = omega arith
+flag_byte-at_most_1 false = omega arith
 
 -- If it is saved as these bytes, it holds nothing more.
-pub decoded_holds_no_more : (bytes : List ℕ) → HasFields (decoded bytes)
+pub decoded-holds_only_saved_data : (bytes : List ℕ) → HasWellTypedFields (decoded bytes)
     → CanBeSaved (decoded bytes) → saved_bytes (decoded bytes) ≡ bytes
-    → HoldsNoMore (decoded bytes)
-decoded_holds_no_more bytes t h e =
+    → HoldsOnlySavedData (decoded bytes)
+decoded-holds_only_saved_data bytes t h e =
     let s : State = decoded bytes in
-    let r : Reads blake2b s.output_size (state_of s) bytes =
-    subst (Reads blake2b s.output_size (state_of s)) e
-    (read blake2b s.output_size (state_of s) (savable s t h)) in
+    let r : BytesDecodeTo blake2b s.output_size (state_of s) bytes =
+    subst (BytesDecodeTo blake2b s.output_size (state_of s)) e
+    (encoding-decodes_to_state blake2b s.output_size (state_of s) (CanBeSaved-is_savable s t h)) in
     record {
-      last_node = omega (arith, r.last_node, flag_byte_most (is_on s.last_node));
+      last_node = omega (arith, r.last_node, flag_byte-at_most_1 (is_on s.last_node));
       pending = r.pending;
       key = refl;
     }

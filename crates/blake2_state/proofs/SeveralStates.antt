@@ -6,9 +6,9 @@ use Rattle.std.proofs.lemmas.List.{get_or-set_other, get_or-set_same, length-set
 use Rattle.blake2_state.specs.SeveralStates.{AreUpdated}
 
 -- No state yet.
-pub none_updated : {S : Type 0} (A : S → List ℕ → S → Type 0) (d : S) (old : List S)
+pub AreUpdated-empty_range : {S : Type 0} (A : S → List ℕ → S → Type 0) (d : S) (old : List S)
     (input : ℕ → List ℕ) (a : ℕ) → AreUpdated A d old input old a a
-none_updated A d old input a = record {
+AreUpdated-empty_range A d old input a = record {
   as_many = refl;
   updated = λ j least most. absurd (omega (arith, least, most));
   before = λ j low. refl;
@@ -16,11 +16,12 @@ none_updated A d old input a = record {
 }
 
 -- One more, which is put in its place.
-pub one_updated : {S : Type 0} (A : S → List ℕ → S → Type 0) (d : S) (old new : List S)
+pub AreUpdated-set_next_state : {S : Type 0} (A : S → List ℕ → S → Type 0) (d : S)
+    (old new : List S)
     (input : ℕ → List ℕ) (a j : ℕ) (s : S) → AreUpdated A d old input new a j → a ≤ j
     → j < length new → A (slice_index_or old j d) (input j) s
     → AreUpdated A d old input (slice_set new j s) a (j + 1)
-one_updated A d old new input a j s first order within here =
+AreUpdated-set_next_state A d old new input a j s first order within here =
     let Is : ℕ → Type 0 = λ k. a ≤ k
     → A (slice_index_or old k d) (input k) (slice_index_or (slice_set new j s) k d) in
     let each = below_more Is j
@@ -39,10 +40,11 @@ one_updated A d old new input a j s first order within here =
     }
 
 -- Those to before number b, and then those to before number c.
-pub joined_updates : {S : Type 0} (A : S → List ℕ → S → Type 0) (d : S) (old mid new : List S)
+pub AreUpdated-joined_ranges : {S : Type 0} (A : S → List ℕ → S → Type 0) (d : S)
+    (old mid new : List S)
     (input : ℕ → List ℕ) (a b c : ℕ) → a ≤ b → b ≤ c → AreUpdated A d old input mid a b
     → AreUpdated A d mid input new b c → AreUpdated A d old input new a c
-joined_updates A d old mid new input a b c ab bc first second =
+AreUpdated-joined_ranges A d old mid new input a b c ab bc first second =
     let low : (j : ℕ) → a ≤ j → j < b
     → A (slice_index_or old j d) (input j) (slice_index_or new j d) =
     λ j least lt. subst (A (slice_index_or old j d) (input j)) (sym (second.before j lt))

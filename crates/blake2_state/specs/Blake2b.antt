@@ -8,7 +8,7 @@ use Rattle.blake2.specs.States as Held
 use Rattle.blake2_state.specs.declared.blake2b.State.{State}
 use Rattle.blake2_state.specs.States.{is_on, meaning_sized, named_key_size}
 use Rattle.blake2_state.specs.SavedStates.{encoding}
-use Rattle.blake2_state.specs.SeveralStates.{piece_at}
+use Rattle.blake2_state.specs.SeveralStates.{input_bytes_at}
 use Rattle.blake2_state.specs.declared.many.Text.{Text}
 
 -- The state that a plain state holds. The pending bytes are at the beginning of their field, and
@@ -48,8 +48,8 @@ abbrev pub IsReadyFor : ℕ → State → Type 0
 IsReadyFor size s = IsReady s × (s.output_size ≡ size)
 
 -- What is not compressed yet, if the state is given this input.
-abbrev pub uncompressed : State → List ℕ → List ℕ
-uncompressed s x = take s.pending_length s.pending ++ x
+abbrev pub pending_and_input : State → List ℕ → List ℕ
+pending_and_input s x = take s.pending_length s.pending ++ x
 
 -- The state can absorb this input: it is ready, and the count stays below 2^64.
 abbrev pub CanAbsorb : State → List ℕ → Type 0
@@ -73,7 +73,7 @@ abbrev pub saved_bytes : State → List ℕ
 saved_bytes s = encoding blake2b s.output_size (state_of s)
 
 -- The state holds nothing but what its saved bytes say.
-pub record HoldsNoMore (s : State) : Type 0 where
+pub record HoldsOnlySavedData (s : State) : Type 0 where
   pub last_node : s.last_node ≤ 1
   pub pending : s.pending ≡ padded 128 (take s.pending_length s.pending)
   pub key : s.key ≡ replicate 64 0
@@ -94,8 +94,9 @@ zeros = record {
 
 -- State j of several can absorb its input.
 abbrev pub CanAbsorbAt : List State → List Text → ℕ → Type 0
-CanAbsorbAt states inputs j = CanAbsorb (slice_index_or states j zeros) (piece_at inputs j)
+CanAbsorbAt states inputs j = CanAbsorb (slice_index_or states j zeros) (input_bytes_at inputs j)
 
 -- What it has not compressed, with its input.
-abbrev pub text_at : List State → List Text → ℕ → List ℕ
-text_at states inputs j = uncompressed (slice_index_or states j zeros) (piece_at inputs j)
+abbrev pub pending_and_input_at : List State → List Text → ℕ → List ℕ
+pending_and_input_at states inputs j = pending_and_input (slice_index_or states j zeros)
+    (input_bytes_at inputs j)

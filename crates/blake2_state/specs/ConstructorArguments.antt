@@ -6,14 +6,14 @@ use Rattle.blake2.specs.States.{node_digest_of}
 use Rattle.blake2_state.specs.declared.StateParameters.{StateParameters}
 
 -- The key that these bytes are. An empty list means that there is no key.
-abbrev pub given_key : List ℕ → Option (List ℕ)
-given_key [] = None
-given_key (x ∷ xs) = Some (x ∷ xs)
+abbrev pub key_unless_empty : List ℕ → Option (List ℕ)
+key_unless_empty [] = None
+key_unless_empty (x ∷ xs) = Some (x ∷ xs)
 
 -- The number of bytes that a key counts for: a block, or 0 without a key (RFC 7693, 3.3).
-abbrev pub given_count : Family → List ℕ → ℕ
-given_count f [] = 0
-given_count f (x ∷ xs) = block_bytes f
+abbrev pub counted_key_bytes : Family → List ℕ → ℕ
+counted_key_bytes f [] = 0
+counted_key_bytes f (x ∷ xs) = block_bytes f
 
 -- What the parameter block of a state names, with these tree parameters (RFC 7693, 2.5; the
 -- BLAKE2 document, 2.8).
@@ -41,4 +41,4 @@ digest_under f p key = node_digest_of f p.size p.salt p.persona key p.tree
 -- last-node flag and the message.
 abbrev pub digest_given : Family → StateParameters → Tree → Bool → List ℕ → List ℕ
 digest_given f given tree =
-    digest_under f (parameters_given given tree) (given_key given.key.now)
+    digest_under f (parameters_given given tree) (key_unless_empty given.key.now)

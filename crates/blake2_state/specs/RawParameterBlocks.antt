@@ -5,19 +5,19 @@ use Rattle.blake2_compress.specs.Hash.{words_of, xor_words, bytes_of, last_chain
 
 -- h[0..7] before the first block: the words of the parameter block xored into the IV (RFC 7693,
 -- 3.3).
-abbrev pub block_start : Family → List ℕ → List ℕ
-block_start f block = xor_words (iv f) (words_of f 8 block)
+abbrev pub initial_words_of_block : Family → List ℕ → List ℕ
+initial_words_of_block f block = xor_words (iv f) (words_of f 8 block)
 
 -- The digest of the data z, which begins with the key's block if there is a key, under this
 -- last-node flag. Its length is the first byte of the parameter block.
-abbrev pub block_digest : Family → List ℕ → Bool → List ℕ → List ℕ
-block_digest f block last_node z =
+abbrev pub digest_by_parameter_block : Family → List ℕ → Bool → List ℕ → List ℕ
+digest_by_parameter_block f block last_node z =
     take (slice_index block 0)
-    (bytes_of f (last_chain f (block_start f block) 0 z (final last_node)))
+    (bytes_of f (last_chain f (initial_words_of_block f block) 0 z (final last_node)))
 
 -- The parameter block has eight words, and names lengths of the output and of the key that the
 -- family accepts (the BLAKE2 document, 2.8).
-pub record AdmitsBlock (f : Family) (block : List ℕ) : Type 0 where
+pub record AdmitsParameterBlock (f : Family) (block : List ℕ) : Type 0 where
   pub whole : length block ≡ 8 * word_bytes f
   pub some : 1 ≤ slice_index block 0
   pub size : slice_index block 0 ≤ output_bytes f

@@ -12,9 +12,9 @@ use Rattle.blake2_state.specs.States.{named_key_size}
 
 -- What saved states begin with: the name of the family in ASCII, and the version of the encoding,
 -- which is 1.
-abbrev pub heading : Family → List ℕ
-heading blake2b = codes "BLAKE2b" ++ 1 ∷ []
-heading blake2s = codes "BLAKE2s" ++ 1 ∷ []
+abbrev pub saved_state_prefix : Family → List ℕ
+saved_state_prefix blake2b = codes "BLAKE2b" ++ 1 ∷ []
+saved_state_prefix blake2s = codes "BLAKE2s" ++ 1 ∷ []
 
 -- The last-node flag as a byte.
 abbrev pub flag_byte : Bool → ℕ
@@ -26,7 +26,8 @@ flag_byte on = if on then 1 else 0
 -- Numbers of more than one byte are in little-endian order.
 unfoldable pub encoding : Family → ℕ → State → List ℕ
 encoding f size s =
-    heading f ++ bytes_of f s.core.h ++ bytes_of f s.core.start ++ to_le_bytes w64 s.core.count
+    saved_state_prefix f ++ bytes_of f s.core.h ++ bytes_of f s.core.start
+    ++ to_le_bytes w64 s.core.count
     ++ size ∷ length s.pending ∷ flag_byte s.core.last_node ∷ padded (block_bytes f) s.pending
 
 -- The state returns digests of `size` bytes, and has no key. Its numbers have room in its fields.

@@ -3,8 +3,8 @@ use Rattle.std.specs.Prelude.{◌≡◌, ℕ, ◌<◌, ◌≤◌, List, [], leng
 use Rattle.blake2_state.specs.declared.many.Text.{Text}
 
 -- Piece j of several.
-abbrev pub piece_at : List Text → ℕ → List ℕ
-piece_at inputs j = slice_index_or (map (λ t. t.bytes.now) inputs) j []
+abbrev pub input_bytes_at : List Text → ℕ → List ℕ
+input_bytes_at inputs j = slice_index_or (map (λ t. t.bytes.now) inputs) j []
 
 -- The states from number `from` to before number `to` have absorbed their inputs, as `Absorbed`
 -- says of a state, an input and the state after it, and all others are as they were. `none` is the

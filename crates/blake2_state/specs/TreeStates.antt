@@ -3,7 +3,7 @@
 use Rattle.std.specs.Prelude.{◌≡◌, ℕ, ◌+◌, ◌*◌, ◌^◌, ◌<◌, ◌≤◌, List, take, replicate}
 use Rattle.blake2_state.specs.Blake2b as Node
 use Rattle.blake2_state.specs.declared.tree.TreeState.{TreeState}
-use Rattle.blake2_tree.specs.NodeViews.{IsOpened}
+use Rattle.blake2_tree.specs.NodeViews.{IsFreshLeaf}
 use Rattle.blake2_tree.specs.OpenTrees as Open
 use Rattle.blake2_tree.specs.OpenTrees.{OpenTree, open_tree}
 use Rattle.blake2_tree.specs.TreeRoot.{TreeParameters}
@@ -30,11 +30,11 @@ abbrev pub count : TreeState → ℕ
 count t = Open.count (state_tree t)
 
 -- The new state is the old one after it absorbs x.
-abbrev pub Took : TreeState → List ℕ → TreeState → Type 0
-Took old x new = Open.Took (state_tree old) x (state_tree new)
+abbrev pub HasAbsorbed : TreeState → List ℕ → TreeState → Type 0
+HasAbsorbed old x new = Open.HasAbsorbed (state_tree old) x (state_tree new)
 
 -- The state's lengths are those of a tree.
-pub record HasLengths (t : TreeState) : Type 0 where
+pub record HasTreeLengths (t : TreeState) : Type 0 where
   pub some : 1 ≤ t.leaf_length
   pub most : t.leaf_length < 2 ^ 32
   pub salt : t.salt_length ≤ 16
@@ -42,7 +42,7 @@ pub record HasLengths (t : TreeState) : Type 0 where
 
 -- The state's counts are those of a tree: the open leaf has at most a leaf's bytes, the root has
 -- absorbed the digests of the closed leaves, and the bytes and the leaves are fewer than 2^58.
-pub record HasCounts (t : TreeState) : Type 0 where
+pub record HasTreeCounts (t : TreeState) : Type 0 where
   pub within_a_leaf : Node.meaning.count t.leaf ≤ t.leaf_length
   pub counted : count t < 2 ^ 58
   pub digests_taken : Node.meaning.count t.root ≡ 64 * t.closed
@@ -54,21 +54,21 @@ pub record IsReady (t : TreeState) : Type 0 where
   pub leaf : Node.IsReady t.leaf
   pub root : Node.IsReady t.root
   pub leaf_size : t.leaf.output_size ≡ 64
-  pub lengths : HasLengths t
-  pub counts : HasCounts t
+  pub lengths : HasTreeLengths t
+  pub counts : HasTreeCounts t
 
 -- The state returns a root of `size` bytes.
 abbrev pub IsReadyFor : ℕ → TreeState → Type 0
 IsReadyFor size t = IsReady t × (t.root.output_size ≡ size)
 
 -- The open leaf has just been opened, and has absorbed nothing.
-abbrev pub IsBegun : TreeState → Type 0
-IsBegun t = IsOpened Node.meaning (parameters t) t.closed t.leaf
+abbrev pub HasEmptyOpenLeaf : TreeState → Type 0
+HasEmptyOpenLeaf t = IsFreshLeaf Node.meaning (parameters t) t.closed t.leaf
 
 -- An open leaf that has absorbed nothing is as it was opened. That holds for every state that a
 -- constructor has made, and updates preserve it.
-abbrev pub IsAsOpened : TreeState → Type 0
-IsAsOpened t = (Node.meaning.count t.leaf ≡ 0) → IsBegun t
+abbrev pub HasFreshLeafIfEmpty : TreeState → Type 0
+HasFreshLeafIfEmpty t = (Node.meaning.count t.leaf ≡ 0) → HasEmptyOpenLeaf t
 
 -- The zeroed state, which returns no root.
 abbrev pub zeros : TreeState

@@ -7,11 +7,14 @@ ghost use Rattle.blake2_simd.specs.Family.{blake2s};
 ghost use Rattle.blake2_compress.specs.Hash.{AdmitsTree, sequential};
 ghost use Rattle.blake2_compress.specs.Views.{given_parameters, tree_of};
 ghost use Rattle.blake2_digest.specs.Texts.{padded};
-ghost use Rattle.blake2_digest.specs.States.{Fresh, NodeSet, Updated, StartedAgain, digest_now};
-ghost use Rattle.blake2_state.specs.ConstructorArguments.{AdmitsState, given_count, digest_given};
+ghost use Rattle.blake2_digest.specs.States.{Fresh, LastNodeFlagSet, Updated, ResetToStart};
+ghost use Rattle.blake2_digest.specs.States.{digest_now};
+ghost use Rattle.blake2_state.specs.ConstructorArguments.{AdmitsState, counted_key_bytes};
+ghost use Rattle.blake2_state.specs.ConstructorArguments.{digest_given};
 ghost use Rattle.blake2_state.specs.ConstructorArguments.{digest_under};
 ghost use Rattle.blake2_state.specs.ConstructorArguments.{parameters_given};
-ghost use Rattle.blake2_state.specs.RawParameterBlocks.{block_digest, AdmitsBlock};
+ghost use Rattle.blake2_state.specs.RawParameterBlocks.{digest_by_parameter_block};
+ghost use Rattle.blake2_state.specs.RawParameterBlocks.{AdmitsParameterBlock};
 ghost use Rattle.blake2_state.specs.Blake2s.{IsKeyed, IsReady, key_length, meaning, zeros};
 ghost use Rattle.blake2_state.specs.States.{is_on};
 
@@ -187,7 +190,8 @@ impl State {
         ensures size { IfOk result (λ s. s.output_size ≡ given.now.output_size) }
         ensures key { IfOk result (λ s. key_length s ≡ length given.now.key.now) }
         ensures fresh { IfOk result (λ s. Fresh meaning
-            (digest_given blake2s given.now sequential) (given_count blake2s given.now.key.now) s) }
+            (digest_given blake2s given.now sequential)
+            (counted_key_bytes blake2s given.now.key.now) s) }
     {
         Self::init_tree(given, &Tree::sequential())
     }
@@ -217,7 +221,7 @@ impl State {
         ensures key { IfOk result (λ s. key_length s ≡ length given.now.key.now) }
         ensures fresh { IfOk result (λ s. Fresh meaning
             (digest_given blake2s given.now (tree_of tree.now))
-            (given_count blake2s given.now.key.now) s) }
+            (counted_key_bytes blake2s given.now.key.now) s) }
     {
         let parameters = given.parameters(tree);
         if !Self::admits(&parameters) {
@@ -235,11 +239,12 @@ impl State {
     /// error is `InvalidLength`, exactly for a block that does not have 32 bytes, and for one
     /// that names a digest of 0 or more than 32 bytes or a key of more than 32.
     pub fn init_param(block: &[u8]) -> Result<Self, InvalidLength>
-        ensures refused { IsErr result ↔ ¬ AdmitsBlock blake2s block.now }
+        ensures refused { IsErr result ↔ ¬ AdmitsParameterBlock blake2s block.now }
         ensures ready { IfOk result (λ s. IsReady s) }
         ensures size { IfOk result (λ s. s.output_size ≡ slice_index block.now 0) }
         ensures key { IfOk result (λ s. key_length s ≡ slice_index block.now 1) }
-        ensures fresh { IfOk result (λ s. Fresh meaning (block_digest blake2s block.now) 0 s) }
+        ensures fresh { IfOk result (λ s. Fresh meaning
+            (digest_by_parameter_block blake2s block.now) 0 s) }
     {
         if block.len() != 32 {
             return Err(InvalidLength);
@@ -273,7 +278,7 @@ impl State {
         ensures ready { IsReady self.new }
         ensures size { self.new.output_size ≡ self.old.output_size }
         ensures key { key_length self.new ≡ key_length self.old }
-        ensures set { NodeSet meaning self.old on self.new }
+        ensures set { LastNodeFlagSet meaning self.old on self.new }
     {
         self.last_node = if on { 1 } else { 0 };
     }
@@ -389,7 +394,7 @@ impl State {
         ensures ready { IsReady self.new }
         ensures size { self.new.output_size ≡ self.old.output_size }
         ensures key { key_length self.new ≡ key_length self.old }
-        ensures reset { StartedAgain meaning self.old self.new }
+        ensures reset { ResetToStart meaning self.old self.new }
     {
         self.chain = self.first;
         self.counter = 0;

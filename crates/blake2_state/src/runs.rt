@@ -4,8 +4,9 @@ ghost use Rattle.std.specs.Prelude.{◌≡◌, ◌↔◌, ◌<◌, IfOk, IsErr};
 ghost use Rattle.std.proofs.Common.{arith};
 ghost use Rattle.blake2_simd.specs.Family.{blake2b, blake2s};
 ghost use Rattle.blake2_compress.specs.Hash.{sequential};
-ghost use Rattle.blake2_digest.specs.States.{Fresh, Updated, StartedAgain, digest_now};
-ghost use Rattle.blake2_state.specs.ConstructorArguments.{AdmitsState, given_count, digest_given};
+ghost use Rattle.blake2_digest.specs.States.{Fresh, Updated, ResetToStart, digest_now};
+ghost use Rattle.blake2_state.specs.ConstructorArguments.{AdmitsState, counted_key_bytes};
+ghost use Rattle.blake2_state.specs.ConstructorArguments.{digest_given};
 ghost use Rattle.blake2_state.specs.ConstructorArguments.{parameters_given};
 ghost use Rattle.blake2_state.specs.Runs.{meaning, padded_digest};
 
@@ -76,7 +77,7 @@ impl Run {
             ↔ ¬ AdmitsState blake2b (parameters_given given.now sequential) }
         ensures fresh { IfOk result (λ run. Fresh meaning
             (padded_digest (digest_given blake2b given.now sequential))
-            (given_count blake2b given.now.key.now) run) }
+            (counted_key_bytes blake2b given.now.key.now) run) }
     {
         match StateB::init_salt_personal(given) {
             Ok(state) => Ok(Run {
@@ -93,7 +94,7 @@ impl Run {
             ↔ ¬ AdmitsState blake2s (parameters_given given.now sequential) }
         ensures fresh { IfOk result (λ run. Fresh meaning
             (padded_digest (digest_given blake2s given.now sequential))
-            (given_count blake2s given.now.key.now) run) }
+            (counted_key_bytes blake2s given.now.key.now) run) }
     {
         match StateS::init_salt_personal(given) {
             Ok(state) => Ok(Run {
@@ -143,7 +144,7 @@ impl FixedOutput<64> for Run {
 }
 
 impl Reset for Run {
-    ghost is_reset = { StartedAgain meaning };
+    ghost is_reset = { ResetToStart meaning };
 
     fn reset(&mut self) {
         match &mut self.held {

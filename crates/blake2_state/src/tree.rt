@@ -4,23 +4,28 @@
 
 ghost use Rattle.std.specs.Prelude.{◌≡◌, ℕ, ◌+◌, ◌*◌, ◌^◌, ◌<◌, ◌≤◌, ◌↔◌, List, [], ◌++◌, length};
 ghost use Rattle.std.specs.Prelude.{◌/◌, ◌%◌, drop, true, false, IfOk, IsErr, IsTrue};
-ghost use Rattle.blake2_digest.specs.States.{Fresh, AtStart, digest_now};
+ghost use Rattle.blake2_digest.specs.States.{Fresh, IsAtStart, digest_now};
 ghost use Rattle.blake2_simd.specs.Family.{blake2b};
 ghost use Rattle.blake2_compress.specs.Hash.{digest};
 ghost use Rattle.blake2_state.specs.Blake2b.{IsReady as IsNodeReady, meaning};
 ghost use Rattle.blake2_tree.specs.NodeViews.{shared_parameters, node_digest};
-ghost use Rattle.blake2_tree.specs.TreeRoot.{tree_parameters, tree_root as root_of, root_over};
+ghost use Rattle.blake2_tree.specs.TreeRoot.{tree_parameters, tree_root as root_of};
+ghost use Rattle.blake2_tree.specs.TreeRoot.{root_input_over_digests};
 ghost use Rattle.blake2_tree.specs.TreeRoot.{leaf_count};
-ghost use Rattle.blake2_tree.specs.LeafRanges.{AreWholeLeaves, range_digests, ArePartOfAll};
+ghost use Rattle.blake2_tree.specs.LeafRanges.{AreWholeLeaves, range_digests};
+ghost use Rattle.blake2_tree.specs.LeafRanges.{AreDigestsInEveryMessage};
 ghost use Rattle.blake2_tree.specs.LeafRanges.{IsRootOfCuts};
-ghost use Rattle.blake2_tree.specs.LeafRanges.{IsRootOfChanges};
-ghost use Rattle.blake2_state.specs.TreeStates.{HasLengths, HasCounts, IsReady, IsBegun};
-ghost use Rattle.blake2_state.specs.TreeStates.{IsAsOpened, Took, parameters, state_tree, future};
+ghost use Rattle.blake2_tree.specs.LeafRanges.{IsRootAfterReplacement};
+ghost use Rattle.blake2_state.specs.TreeStates.{HasTreeLengths, HasTreeCounts, IsReady};
+ghost use Rattle.blake2_state.specs.TreeStates.{HasEmptyOpenLeaf};
+ghost use Rattle.blake2_state.specs.TreeStates.{HasFreshLeafIfEmpty, HasAbsorbed, parameters};
+ghost use Rattle.blake2_state.specs.TreeStates.{state_tree, future};
 ghost use Rattle.blake2_state.specs.TreeStates.{count, zeros};
-ghost use Rattle.blake2_tree.specs.TreeLengths.{AcceptsLengths, lengths_of};
-ghost use Rattle.blake2_tree.specs.OpenTrees.{room, WentOn};
-ghost use Rattle.blake2_tree.specs.LeafUpdates.{IsAtBoundary, next_leaf, AreNextLeaves};
-ghost use Rattle.blake2_tree.specs.LeafUpdates.{AcceptsLeaves, TookLeaves, TookDigests, root_after};
+ghost use Rattle.blake2_tree.specs.TreeLengths.{AreAcceptedTreeLengths, tree_lengths_of};
+ghost use Rattle.blake2_tree.specs.OpenTrees.{room, HasAbsorbedPrefix};
+ghost use Rattle.blake2_tree.specs.LeafUpdates.{IsAtLeafBoundary, next_leaf_index, AreNextLeaves};
+ghost use Rattle.blake2_tree.specs.LeafUpdates.{AcceptsLeafDigests, HasAbsorbedLeaves};
+ghost use Rattle.blake2_tree.specs.LeafUpdates.{HasAbsorbedDigests, root_after_leaf_digests};
 
 use crate::blake2b::State;
 use blake2_compress::params::Parameters;
@@ -80,7 +85,7 @@ pub fn leaf_state(salt: &[u8], persona: &[u8], leaf_length: u32, i: u64, last: b
     requires leaf_length { 1 ≤ leaf_length }
     ensures ready { IsNodeReady result }
     ensures size { result.output_size ≡ 64 }
-    ensures leaf { AtStart meaning
+    ensures leaf { IsAtStart meaning
         (node_digest 64 (tree_parameters salt.now persona.now leaf_length) i 0) 0 result }
     ensures last { meaning.last_node result ≡ last }
 {
@@ -101,7 +106,7 @@ pub fn root_state(salt: &[u8], persona: &[u8], leaf_length: u32, output_size: us
     requires leaf_length { 1 ≤ leaf_length }
     ensures ready { IsNodeReady result }
     ensures size { result.output_size ≡ output_size }
-    ensures root { AtStart meaning
+    ensures root { IsAtStart meaning
         (node_digest output_size (tree_parameters salt.now persona.now leaf_length) 0 1) 0 result }
     ensures last { meaning.last_node result ≡ true }
 {
@@ -127,10 +132,10 @@ pub fn write_root_of_leaves(
     requires persona { length persona.now ≤ 16 }
     requires leaf_length { 1 ≤ leaf_length }
     ensures root { out.new ≡ digest blake2b (length out.old)
-        (root_over (tree_parameters salt.now persona.now leaf_length) digests.now) }
+        (root_input_over_digests (tree_parameters salt.now persona.now leaf_length) digests.now) }
     ensures cuts { IsRootOfCuts (length out.old)
         (tree_parameters salt.now persona.now leaf_length) digests.now out.new }
-    ensures changes { IsRootOfChanges (length out.old)
+    ensures changes { IsRootAfterReplacement (length out.old)
         (tree_parameters salt.now persona.now leaf_length) digests.now out.new }
 {
     let mut root = root_state(salt, persona, leaf_length, out.len());
@@ -163,7 +168,7 @@ impl TreeState {
 
     // Whether the lengths are those of a tree.
     fn has_lengths(&self) -> bool
-        ensures { IsTrue result ↔ HasLengths self.now }
+        ensures { IsTrue result ↔ HasTreeLengths self.now }
     {
         self.leaf_length >= 1
             && self.leaf_length <= u64::from(u32::MAX)
@@ -175,8 +180,8 @@ impl TreeState {
     fn has_counts(&self) -> bool
         requires leaf { IsNodeReady self.now.leaf }
         requires root { IsNodeReady self.now.root }
-        requires lengths { HasLengths self.now }
-        ensures { IsTrue result ↔ HasCounts self.now }
+        requires lengths { HasTreeLengths self.now }
+        ensures { IsTrue result ↔ HasTreeCounts self.now }
     {
         let taken = self.leaf.counted();
         taken <= self.leaf_length
@@ -218,8 +223,8 @@ impl TreeState {
         leaf_length: u32,
     ) -> Result<Self, InvalidLength>
         ensures refused { IsErr result
-            ↔ ¬ AcceptsLengths
-            (lengths_of output_size (tree_parameters salt.now persona.now leaf_length)) }
+            ↔ ¬ AreAcceptedTreeLengths
+            (tree_lengths_of output_size (tree_parameters salt.now persona.now leaf_length)) }
         ensures ready { IfOk result (λ t. IsReady t) }
         ensures size { IfOk result (λ t. t.root.output_size ≡ output_size) }
         ensures root { IfOk result (λ t. (y : List ℕ) → future t y
@@ -227,7 +232,7 @@ impl TreeState {
         ensures nothing { IfOk result (λ t. count t ≡ 0) }
         ensures shared { IfOk result (λ t.
             parameters t ≡ tree_parameters salt.now persona.now leaf_length) }
-        ensures opened { IfOk result (λ t. IsAsOpened t) }
+        ensures opened { IfOk result (λ t. HasFreshLeafIfEmpty t) }
     {
         if !accepts(output_size, salt.len(), persona.len(), leaf_length) {
             return Err(InvalidLength);
@@ -248,7 +253,7 @@ impl TreeState {
             ≡ root_of output_size (tree_parameters salt.now persona.now leaf_length) y }
         ensures nothing { count result ≡ 0 }
         ensures shared { parameters result ≡ tree_parameters salt.now persona.now leaf_length }
-        ensures opened { IsAsOpened result }
+        ensures opened { HasFreshLeafIfEmpty result }
     {
         let nodes = Nodes::new(salt, persona, leaf_length);
         TreeState {
@@ -293,7 +298,7 @@ impl TreeState {
     /// Returns whether what was absorbed is whole leaves, or nothing. The state must be ready.
     pub fn is_at_boundary(&self) -> bool
         requires { IsReady self.now }
-        ensures { IsTrue result ↔ IsAtBoundary (state_tree self.now) }
+        ensures { IsTrue result ↔ IsAtLeafBoundary (state_tree self.now) }
     {
         self.counted() % self.leaf_length == 0
     }
@@ -325,9 +330,9 @@ impl TreeState {
         requires room { length digests.old
             ≡ 64 * leaf_count self.now.leaf_length (length bytes.now) }
         ensures digests { digests.new ≡ range_digests (parameters self.now)
-            (next_leaf (state_tree self.now) + skip) false bytes.now }
-        ensures part { ArePartOfAll (parameters self.now)
-            (next_leaf (state_tree self.now) + skip) false bytes.now digests.new }
+            (next_leaf_index (state_tree self.now) + skip) false bytes.now }
+        ensures part { AreDigestsInEveryMessage (parameters self.now)
+            (next_leaf_index (state_tree self.now) + skip) false bytes.now digests.new }
     {
         let salt = &self.salt[..self.salt_length];
         let persona = &self.persona[..self.persona_length];
@@ -349,7 +354,8 @@ impl TreeState {
     /// one byte of input follows them. The state must be ready.
     pub fn accepts_leaves(&self, digests_length: usize, input_length: usize) -> bool
         requires { IsReady self.now }
-        ensures { IsTrue result ↔ AcceptsLeaves (state_tree self.now) digests_length input_length }
+        ensures { IsTrue result ↔ AcceptsLeafDigests (state_tree self.now) digests_length
+            input_length }
     {
         let leaves = digests_length as u64 / 64;
         let is_in_place = digests_length == 0 || (input_length > 0 && self.is_at_boundary());
@@ -372,16 +378,17 @@ impl TreeState {
     /// [`TreeState::accepts_leaves`] true of the two lengths.
     pub fn update_leaves(&mut self, digests: &[u8], input: &[u8])
         requires ready { IsReady self.old }
-        requires accepted { AcceptsLeaves (state_tree self.old) (length digests.now)
+        requires accepted { AcceptsLeafDigests (state_tree self.old) (length digests.now)
             (length input.now) }
         ensures ready { IsReady self.new }
         ensures size { self.new.root.output_size ≡ self.old.root.output_size }
-        ensures none { digests.now ≡ [] → Took self.old input.now self.new }
-        ensures digests { TookDigests (state_tree self.old) digests.now input.now
+        ensures none { digests.now ≡ [] → HasAbsorbed self.old input.now self.new }
+        ensures digests { HasAbsorbedDigests (state_tree self.old) digests.now input.now
             (state_tree self.new) }
-        ensures taken { IsAsOpened self.old → TookLeaves (state_tree self.old) digests.now input.now
+        ensures taken { HasFreshLeafIfEmpty self.old
+            → HasAbsorbedLeaves (state_tree self.old) digests.now input.now
             (state_tree self.new) }
-        ensures opened { IsAsOpened self.old → IsAsOpened self.new }
+        ensures opened { HasFreshLeafIfEmpty self.old → HasFreshLeafIfEmpty self.new }
     {
         if digests.is_empty() {
             return self.update(input);
@@ -402,8 +409,8 @@ impl TreeState {
         ensures ready { IsReady self.new }
         ensures size { self.new.root.output_size ≡ self.old.root.output_size }
         ensures shared { parameters self.new ≡ parameters self.old }
-        ensures begun { IsBegun self.new }
-        ensures future { IsBegun self.old
+        ensures begun { HasEmptyOpenLeaf self.new }
+        ensures future { HasEmptyOpenLeaf self.old
             → (x y : List ℕ) → AreWholeLeaves self.old.leaf_length x → 0 < length y
             → digests.now ≡ range_digests (parameters self.old) self.old.closed false x
             → future self.new y ≡ future self.old (x ++ y) }
@@ -426,8 +433,8 @@ impl TreeState {
         requires counted { count self.old + length input.now < 2 ^ 58 }
         ensures ready { IsReady self.new }
         ensures size { self.new.root.output_size ≡ self.old.root.output_size }
-        ensures taken { Took self.old input.now self.new }
-        ensures opened { IsAsOpened self.old → IsAsOpened self.new }
+        ensures taken { HasAbsorbed self.old input.now self.new }
+        ensures opened { HasFreshLeafIfEmpty self.old → HasFreshLeafIfEmpty self.new }
     {
         if input.len() as u64 <= self.room() {
             self.leaf.update(input);
@@ -440,12 +447,12 @@ impl TreeState {
     // Absorbs the input, if the open leaf has absorbed nothing.
     fn take_leaves(&mut self, input: &[u8])
         requires ready { IsReady self.old }
-        requires begun { IsBegun self.old }
+        requires begun { HasEmptyOpenLeaf self.old }
         requires counted { count self.old + length input.now < 2 ^ 58 }
         ensures ready { IsReady self.new }
         ensures size { self.new.root.output_size ≡ self.old.root.output_size }
-        ensures taken { Took self.old input.now self.new }
-        ensures opened { IsAsOpened self.new }
+        ensures taken { HasAbsorbed self.old input.now self.new }
+        ensures opened { HasFreshLeafIfEmpty self.new }
     {
         let mut rest = input;
         while rest.len() as u64 > self.leaf_length {
@@ -466,8 +473,9 @@ impl TreeState {
         requires fits { count self.old + length input.now < 2 ^ 58 }
         ensures ready { IsReady self.new }
         ensures size { self.new.root.output_size ≡ self.old.root.output_size }
-        ensures begun { IsBegun self.new }
-        ensures went_on { WentOn (state_tree self.old) input.now (state_tree self.new) result.now }
+        ensures begun { HasEmptyOpenLeaf self.new }
+        ensures went_on { HasAbsorbedPrefix (state_tree self.old) input.now (state_tree self.new)
+            result.now }
     {
         let (head, rest) = input.split_at(self.room() as usize);
         self.leaf.update(head);
@@ -488,7 +496,7 @@ impl TreeState {
             ≡ (state_tree self.old).root ((state_tree self.old).leaf false [] ++ z) }
         ensures count { count self.new ≡ count self.old }
         ensures closed { self.new.closed ≡ self.old.closed + 1 }
-        ensures begun { IsBegun self.new }
+        ensures begun { HasEmptyOpenLeaf self.new }
     {
         let nodes = self.nodes();
         self.leaf.set_last_node(false);
@@ -500,18 +508,18 @@ impl TreeState {
     // Closes the open leaf if it is full, so that the open one is empty: more follows.
     fn begin_leaf(&mut self)
         requires ready { IsReady self.old }
-        requires boundary { IsAtBoundary (state_tree self.old) }
+        requires boundary { IsAtLeafBoundary (state_tree self.old) }
         requires fits { count self.old + 1 < 2 ^ 58 }
         ensures ready { IsReady self.new }
         ensures size { self.new.root.output_size ≡ self.old.root.output_size }
         ensures shared { parameters self.new ≡ parameters self.old }
         ensures future { (y : List ℕ) → 0 < length y → future self.new y ≡ future self.old y }
         ensures root { (z : List ℕ) → (state_tree self.new).root z
-            ≡ root_after (state_tree self.old) z }
+            ≡ root_after_leaf_digests (state_tree self.old) z }
         ensures count { count self.new ≡ count self.old }
-        ensures closed { self.new.closed ≡ next_leaf (state_tree self.old) }
+        ensures closed { self.new.closed ≡ next_leaf_index (state_tree self.old) }
         ensures empty { meaning.count self.new.leaf ≡ 0 }
-        ensures begun { IsAsOpened self.old → IsBegun self.new }
+        ensures begun { HasFreshLeafIfEmpty self.old → HasEmptyOpenLeaf self.new }
     {
         if self.leaf.counted() > 0 {
             self.close_full();
@@ -523,13 +531,14 @@ impl TreeState {
     // input.
     fn close_next<'a>(&mut self, input: &'a [u8]) -> &'a [u8]
         requires ready { IsReady self.old }
-        requires begun { IsBegun self.old }
+        requires begun { HasEmptyOpenLeaf self.old }
         requires more { 4 * self.old.leaf_length < length input.now }
         requires fits { count self.old + length input.now < 2 ^ 58 }
         ensures ready { IsReady self.new }
         ensures size { self.new.root.output_size ≡ self.old.root.output_size }
-        ensures begun { IsBegun self.new }
-        ensures went_on { WentOn (state_tree self.old) input.now (state_tree self.new) result.now }
+        ensures begun { HasEmptyOpenLeaf self.new }
+        ensures went_on { HasAbsorbedPrefix (state_tree self.old) input.now (state_tree self.new)
+            result.now }
     {
         let nodes = self.nodes();
         let mut digests = [0; 512];

@@ -18,9 +18,9 @@ Updated-trans m old mid new x y p q = record {
 }
 
 -- A sink that accepted some bytes has not failed.
-pub unfailed-more : (old new some : Bool) (n : ℕ) → old ≡ false → (n ≡ 0 → ⊥)
+pub unfailed-if_bytes_accepted : (old new some : Bool) (n : ℕ) → old ≡ false → (n ≡ 0 → ⊥)
     → new ≡ (old || (n == 0 && some)) → new ≡ false
-unfailed-more true new some n is_old moves is_new = cc
-unfailed-more false new some zero is_old moves is_new = absurd (moves refl)
-unfailed-more false new some (suc n) is_old moves is_new =
+unfailed-if_bytes_accepted true new some n is_old moves is_new = cc
+unfailed-if_bytes_accepted false new some zero is_old moves is_new = absurd (moves refl)
+unfailed-if_bytes_accepted false new some (suc n) is_old moves is_new =
     is_new ∙ ap (λ b. b && some) (eqb-suc-zero n)

@@ -6,8 +6,9 @@ use Rattle.std.specs.Io.KnownBytes.{Consumes, IsAtEnd}
 
 -- `read(buf)` returned the next n bytes with `Ok(n)`, and no bytes for a buffer that is not empty
 -- only at the end. After an error nothing is said.
-abbrev pub Gives : {E : Type 0} → Option (List ℕ) → Option (List ℕ) → Result ℕ E → List ℕ → Type 0
-Gives old new r buf =
+abbrev pub ReadReturns : {E : Type 0} → Option (List ℕ) → Option (List ℕ) → Result ℕ E → List ℕ
+    → Type 0
+ReadReturns old new r buf =
     IfOk r (λ n. Consumes old new (take n buf) × (n ≡ 0 → 0 < length buf → IsAtEnd new))
 
 -- Whether `write(piece)` returned an error, or wrote no byte of a piece that is not empty.
@@ -21,8 +22,8 @@ call_limit most None = most
 call_limit most (Some before) = min most before
 
 -- The number of bytes that pass before the error, after n have passed.
-abbrev pub before_error_after : Option ℕ → ℕ → Option ℕ
-before_error_after before n = option_map (λ b. b - n) before
+abbrev pub remaining_before_error : Option ℕ → ℕ → Option ℕ
+remaining_before_error before n = option_map (λ b. b - n) before
 
 -- A source in memory: the bytes that are left, the maximum number of bytes that a call returns, the
 -- number of bytes that pass before the error (`None` if it never comes), and whether a read has
@@ -38,9 +39,9 @@ abbrev pub read_count : SourceState → ℕ → ℕ
 read_count s room = min (min (length s.rest) room) (call_limit s.most s.before_error)
 
 -- The source after it has returned n bytes.
-abbrev pub given_state : SourceState → ℕ → SourceState
-given_state s n =
-    record s { rest = drop n s.rest; before_error = before_error_after s.before_error n }
+abbrev pub source_after_read : SourceState → ℕ → SourceState
+source_after_read s n =
+    record s { rest = drop n s.rest; before_error = remaining_before_error s.before_error n }
 
 -- A sink in memory: the bytes that it holds at the front of the memory, the bytes after them, which
 -- it has not overwritten, the maximum number of bytes that a call accepts, the number of bytes that
@@ -58,10 +59,10 @@ write_count s size = min (min (length s.rest) size) (call_limit s.most s.before_
 
 -- The sink after it has accepted n bytes of a piece. It has failed if it had failed before, or if n
 -- is 0 and the piece is not empty.
-abbrev pub taken_state : SinkState → List ℕ → ℕ → SinkState
-taken_state s piece n = record s {
+abbrev pub sink_after_write : SinkState → List ℕ → ℕ → SinkState
+sink_after_write s piece n = record s {
   held = s.held ++ take n piece;
   rest = drop n s.rest;
-  before_error = before_error_after s.before_error n;
+  before_error = remaining_before_error s.before_error n;
   failed = s.failed || (n == 0 && nat_lt 0 (length piece));
 }

@@ -9,13 +9,13 @@ abbrev pub line_of : List ℕ → List ℕ
 line_of digest = encode_lower digest ++ (10 ∷ [])
 
 -- A source returned these bytes, and is at its end.
-pub record GivesAll (old new : Option (List ℕ)) (bytes : List ℕ) : Type 0 where
+pub record ReturnsAllBytes (old new : Option (List ℕ)) (bytes : List ℕ) : Type 0 where
   pub are_bytes : AreBytes bytes
   pub given : Consumes old new bytes
   pub at_end : IsAtEnd new
 
 -- A sink accepted the beginning of these bytes, and not all of them.
-abbrev pub TakesPart : Option (List ℕ) → Option (List ℕ) → List ℕ → Type 0
-TakesPart old new text =
+abbrev pub AcceptsProperPrefix : Option (List ℕ) → Option (List ℕ) → List ℕ → Type 0
+AcceptsProperPrefix old new text =
     (part : List ℕ) × (rest : List ℕ) × (text ≡ part ++ rest) × (0 < length rest)
     × Appends old new part

@@ -3,7 +3,7 @@
 ghost use Rattle.std.specs.Prelude.{◌≡◌, ℕ, List, Option, Bool, ◌||◌, is_err};
 ghost use Rattle.std.specs.Io.{ReadsAtMost, WritesAtMost};
 ghost use Rattle.std.specs.Io.KnownBytes.{WriteAppends};
-ghost use Rattle.blake2_streams.specs.Devices.{Gives, is_failed_write};
+ghost use Rattle.blake2_streams.specs.Devices.{ReadReturns, is_failed_write};
 
 /// The error of a device that failed, or that accepted no byte of a piece that is not empty.
 #[derive(Clone, Copy, Debug, PartialEq, Eq)]
@@ -22,7 +22,7 @@ pub trait Source {
     /// `DeviceError`, if the device fails. After an error nothing is promised about the bytes.
     fn read(&mut self, buf: &mut [u8]) -> Result<usize, DeviceError>
         ensures bound { ReadsAtMost result buf.new }
-        ensures bytes { Gives (left self.old) (left self.new) result buf.new }
+        ensures bytes { ReadReturns (left self.old) (left self.new) result buf.new }
         ensures fails { failed self.new ≡ (failed self.old || is_err result) };
 
     /// Returns whether a read has returned an error.

@@ -6,7 +6,7 @@ ghost use Rattle.std.specs.Prelude.{true, false};
 ghost use Rattle.std.specs.Io.{WritesAtMost};
 ghost use Rattle.std.specs.Io.KnownBytes.{WriteAppends};
 ghost use Rattle.blake2_streams.specs.Devices.{is_failed_write, SinkState, write_count};
-ghost use Rattle.blake2_streams.specs.Devices.{taken_state};
+ghost use Rattle.blake2_streams.specs.Devices.{sink_after_write};
 
 use super::device::{DeviceError, Sink};
 use std::marker::Model;
@@ -86,7 +86,7 @@ impl Sink for SliceSink<'_> {
         // What it returns, and what it holds then.
         ensures refused { IsErr result ↔ (self.old.before_error ≡ Some 0) }
         ensures count { IfOk result (λ n. n ≡ write_count self.old (length buf.now)) }
-        ensures taken { IfOk result (λ n. self.new ≡ taken_state self.old buf.now n) }
+        ensures taken { IfOk result (λ n. self.new ≡ sink_after_write self.old buf.now n) }
         ensures unmoved { OnErr result (self.new ≡ record self.old { failed = true }) }
     {
         let mut count = buf.len().min(self.room.len() - self.at).min(self.most);

@@ -3,7 +3,8 @@
 ghost use Rattle.std.specs.Prelude.{◌≡◌, ◌↔◌, ◌≤◌, ◌||◌, length, Some, is_err, IsErr, IfOk, OnErr};
 ghost use Rattle.std.specs.Prelude.{true, false};
 ghost use Rattle.std.specs.Io.{ReadsAtMost};
-ghost use Rattle.blake2_streams.specs.Devices.{Gives, SourceState, read_count, given_state};
+ghost use Rattle.blake2_streams.specs.Devices.{ReadReturns, SourceState, read_count};
+ghost use Rattle.blake2_streams.specs.Devices.{source_after_read};
 
 use super::device::{DeviceError, Source};
 use std::marker::Model;
@@ -60,13 +61,13 @@ impl Source for SliceSource<'_> {
 
     fn read(&mut self, buf: &mut [u8]) -> Result<usize, DeviceError>
         ensures bound { ReadsAtMost result buf.new }
-        ensures bytes { Gives (Some self.old.rest) (Some self.new.rest) result buf.new }
+        ensures bytes { ReadReturns (Some self.old.rest) (Some self.new.rest) result buf.new }
         ensures fails { self.new.failed ≡ (self.old.failed || is_err result) }
 
         // What it returns, and what is left.
         ensures refused { IsErr result ↔ (self.old.before_error ≡ Some 0) }
         ensures count { IfOk result (λ n. n ≡ read_count self.old (length buf.old)) }
-        ensures given { IfOk result (λ n. self.new ≡ given_state self.old n) }
+        ensures given { IfOk result (λ n. self.new ≡ source_after_read self.old n) }
         ensures unmoved { OnErr result (self.new ≡ record self.old { failed = true }) }
     {
         let mut count = self.rest.len().min(buf.len()).min(self.most);

@@ -6,7 +6,7 @@ ghost use Rattle.std.specs.Result.{IsErrOf};
 ghost use Rattle.std.specs.Io.KnownBytes.{Consumes, Appends, Keeps};
 ghost use Rattle.blake2_digest.specs.States.{digest_after, digest_now, Updated};
 ghost use Rattle.blake2_digest.specs.Texts.{AreBytes};
-ghost use Rattle.blake2_streams.specs.Streams.{GivesAll, TakesPart, line_of};
+ghost use Rattle.blake2_streams.specs.Streams.{ReturnsAllBytes, AcceptsProperPrefix, line_of};
 
 use super::device::{DeviceError, Sink, Source};
 use blake2_digest::{FixedOutput, Update, tell_bytes};
@@ -57,7 +57,7 @@ where
 
     // What was read and written for each result; a source that has failed says nothing.
     ensures whole { IfOk result (λ n. (bytes : List ℕ) × (length bytes ≡ n)
-        × GivesAll (S.left source.old) (S.left source.new) bytes
+        × ReturnsAllBytes (S.left source.old) (S.left source.new) bytes
         × (H.meaning.count hasher + n < 2 ^ 64)
         × Appends (K.held sink.old) (K.held sink.new)
         (line_of (digest_after H.meaning hasher bytes))) }
@@ -68,9 +68,9 @@ where
         × (2 ^ 64 ≤ H.meaning.count hasher + length bytes)
         × Keeps (K.held sink.old) (K.held sink.new) }
     ensures after_write { IsErrOf result StreamFault.Write → (bytes : List ℕ)
-        × GivesAll (S.left source.old) (S.left source.new) bytes
+        × ReturnsAllBytes (S.left source.old) (S.left source.new) bytes
         × (H.meaning.count hasher + length bytes < 2 ^ 64)
-        × TakesPart (K.held sink.old) (K.held sink.new)
+        × AcceptsProperPrefix (K.held sink.old) (K.held sink.new)
         (line_of (digest_after H.meaning hasher bytes)) }
 {
     let total = absorb_stream(source, &mut hasher)?;
@@ -102,7 +102,7 @@ pub fn absorb_stream<H: Update, S: Source>(
 
     // What was read and absorbed for each result; a source that has failed says nothing.
     ensures whole { IfOk result (λ n. (bytes : List ℕ) × (length bytes ≡ n)
-        × GivesAll (S.left source.old) (S.left source.new) bytes
+        × ReturnsAllBytes (S.left source.old) (S.left source.new) bytes
         × (H.meaning.count hasher.old + n < 2 ^ 64)
         × Updated H.meaning hasher.old bytes hasher.new) }
     ensures after_too_long { IsErrOf result StreamFault.TooLong → (bytes : List ℕ) × AreBytes bytes
@@ -138,7 +138,7 @@ pub fn write_whole<K: Sink>(sink: &mut K, text: &[u8]) -> Result<(), DeviceError
     requires { K.failed sink.old ≡ false }
     ensures fails { IsErr result ↔ IsTrue (K.failed sink.new) }
     ensures whole { OnOk result (Appends (K.held sink.old) (K.held sink.new) text.now) }
-    ensures part { OnErr result (TakesPart (K.held sink.old) (K.held sink.new) text.now) }
+    ensures part { OnErr result (AcceptsProperPrefix (K.held sink.old) (K.held sink.new) text.now) }
 {
     let mut at = 0;
     'writing: while at < text.len() {
@@ -163,7 +163,8 @@ where
     ensures whole { OnOk result
         (Appends (K.held sink.old) (K.held sink.new) (line_of (digest_now H.meaning hasher))) }
     ensures part { OnErr result
-        (TakesPart (K.held sink.old) (K.held sink.new) (line_of (digest_now H.meaning hasher))) }
+        (AcceptsProperPrefix (K.held sink.old) (K.held sink.new)
+        (line_of (digest_now H.meaning hasher))) }
 {
     let mut digest = [0u8; N];
     hasher.finalize_into(&mut digest);

@@ -11,20 +11,22 @@ equal_entry x y = pointwise nat_eq x.block y.block
     && (nat_eq x.counter y.counter && (beq x.last y.last && beq x.last_node y.last_node))
 
 -- The test of two entries returns whether they are equal.
-entry_decides : {B : ℕ} (x y : GivenEntry.Entry B)
+equal_entry-decides_equality : {B : ℕ} (x y : GivenEntry.Entry B)
     → (equal_entry x y ≡ true → x ≡ y) × (x ≡ y → equal_entry x y ≡ true)
-entry_decides x y = search rules
+equal_entry-decides_equality x y = search rules
 
 -- Two tests together decide two facts.
-both : (p q : Bool) (P Q : Type 0) → (p ≡ true → P) × (P → p ≡ true)
+and-decides_both : (p q : Bool) (P Q : Type 0) → (p ≡ true → P) × (P → p ≡ true)
     → (q ≡ true → Q) × (Q → q ≡ true) → IsTrue (p && q) ↔ (P × Q)
-both true true P Q f g = (λ t. (f.0 refl, g.0 refl), λ w. refl)
-both true false P Q f g = (λ t. absurd cc, λ w. g.1 w.1)
-both false q P Q f g = (λ t. absurd cc, λ w. f.1 w.0)
+and-decides_both true true P Q f g = (λ t. (f.0 refl, g.0 refl), λ w. refl)
+and-decides_both true false P Q f g = (λ t. absurd cc, λ w. g.1 w.1)
+and-decides_both false q P Q f g = (λ t. absurd cc, λ w. f.1 w.0)
 
 -- The test of words and entries returns whether both are equal.
-pub transcript_decides : {B : ℕ} (u v : List ℕ) (xs ys : List (GivenEntry.Entry B)) (r : Bool)
+pub pointwise_test-decides_equality : {B : ℕ} (u v : List ℕ) (xs ys : List (GivenEntry.Entry B))
+    (r : Bool)
     → r ≡ (pointwise nat_eq u v && pointwise equal_entry xs ys)
     → IsTrue r ↔ ((u ≡ v) × (xs ≡ ys))
-transcript_decides u v xs ys r e = rw e (both (pointwise nat_eq u v) (pointwise equal_entry xs ys)
-    (u ≡ v) (xs ≡ ys) (bytes_decides u v) (pointwise_decides entry_decides xs ys))
+pointwise_test-decides_equality u v xs ys r e =
+    rw e (and-decides_both (pointwise nat_eq u v) (pointwise equal_entry xs ys)
+    (u ≡ v) (xs ≡ ys) (bytes_decides u v) (pointwise_decides equal_entry-decides_equality xs ys))

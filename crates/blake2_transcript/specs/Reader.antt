@@ -5,7 +5,7 @@ use Rattle.std.specs.Prelude.{drop, slice_index, slice_index_or, Option, Some, N
 use Rattle.blake2_simd.specs.Family.{Family, block_bytes, salt_bytes}
 use Rattle.blake2_compress.specs.Hash.{AreBytes, Input, inner, block_count, padded, Fits}
 use Rattle.blake2_compress.specs.Hash.{Parameters, parameter_words}
-use Rattle.blake2_transcript.specs.Transcript.{Entry, joined, no_entry}
+use Rattle.blake2_transcript.specs.Transcript.{Entry, joined_blocks, no_entry}
 
 -- ---- the entries of a run
 
@@ -18,13 +18,14 @@ abbrev pub described_count : List Entry → ℕ
 described_count entries = (last_entry entries).counter
 
 -- The entry at index i is one that others follow: its counter is (i+1)·bb, and its flags are off.
-pub record IsInner (f : Family) (i : ℕ) (e : Entry) : Type 0 where
+pub record IsInnerEntry (f : Family) (i : ℕ) (e : Entry) : Type 0 where
   pub counter : e.counter ≡ (i + 1) * block_bytes f
   pub flags : e.flags ≡ inner
 
 -- Every entry is one that others follow.
-abbrev pub AreInner : Family → List Entry → Type 0
-AreInner f entries = (i : ℕ) → i < length entries → IsInner f i (slice_index_or entries i no_entry)
+abbrev pub AreInnerEntries : Family → List Entry → Type 0
+AreInnerEntries f entries =
+    (i : ℕ) → i < length entries → IsInnerEntry f i (slice_index_or entries i no_entry)
 
 -- The entry is the last of a run, after `before` others.
 pub record EndsRun (f : Family) (before : ℕ) (e : Entry) : Type 0 where
@@ -38,15 +39,16 @@ IsZeroFrom n xs = (i : ℕ) → n ≤ i → slice_index xs i ≡ 0
 -- The entries are those of a run over some data (3.3).
 pub record IsRun (f : Family) (entries : List Entry) : Type 0 where
   pub number : length entries ≡ block_count f (described_count entries)
-  pub below : (i : ℕ) → i + 1 < length entries → IsInner f i (slice_index_or entries i no_entry)
+  pub below : (i : ℕ) → i + 1 < length entries
+      → IsInnerEntry f i (slice_index_or entries i no_entry)
   pub last : IsTrue (last_entry entries).flags.last
-  pub zeros : IsZeroFrom (described_count entries) (joined entries)
+  pub zeros : IsZeroFrom (described_count entries) (joined_blocks entries)
 
 -- The data begins with the block of a key of n bytes: a whole block is counted, and it is zero
 -- after n bytes (3.3).
 pub record HasKey (f : Family) (n : ℕ) (entries : List Entry) : Type 0 where
   pub counted : block_bytes f ≤ described_count entries
-  pub zeros : (i : ℕ) → n ≤ i → i < block_bytes f → slice_index (joined entries) i ≡ 0
+  pub zeros : (i : ℕ) → n ≤ i → i < block_bytes f → slice_index (joined_blocks entries) i ≡ 0
 
 -- ---- words and entries together
 
@@ -60,7 +62,7 @@ pub record IsReadable (f : Family) (p : Parameters) (ws : List ℕ) (es : List E
 
 -- The data of the entries: the counted bytes of their blocks.
 abbrev pub described_data : List Entry → List ℕ
-described_data entries = take (described_count entries) (joined entries)
+described_data entries = take (described_count entries) (joined_blocks entries)
 
 -- The key of n bytes at the beginning of the data z, or none if n is 0.
 abbrev pub described_key : ℕ → List ℕ → Option (List ℕ)
@@ -87,16 +89,16 @@ described_input f p entries = record {
 -- ---- what the types of the code promise
 
 -- The block of an entry consists of bb bytes.
-pub record IsWhole (f : Family) (e : Entry) : Type 0 where
+pub record HasWholeBlock (f : Family) (e : Entry) : Type 0 where
   pub length_is : length e.block ≡ block_bytes f
   pub bytes : AreBytes e.block
 
 -- The block of every entry consists of bb bytes.
 abbrev pub AreWholeBlocks : Family → List Entry → Type 0
 AreWholeBlocks f entries =
-    (i : ℕ) → i < length entries → IsWhole f (slice_index_or entries i no_entry)
+    (i : ℕ) → i < length entries → HasWholeBlock f (slice_index_or entries i no_entry)
 
 -- The blocks are whole, and the last counter is below 2^64.
-pub record AreTyped (f : Family) (entries : List Entry) : Type 0 where
+pub record AreWellFormedEntries (f : Family) (entries : List Entry) : Type 0 where
   pub whole : AreWholeBlocks f entries
   pub counter : described_count entries < 2 ^ 64

@@ -31,16 +31,16 @@ abbrev pub entries_of : {B : ℕ} → GivenTranscript.Transcript ℕ B → List 
 entries_of t = map entry_of t.entries.items
 
 -- The bytes that a key holds, if there is a key.
-abbrev pub items_of : Option (Vec ℕ) → Option (List ℕ)
-items_of None = None
-items_of (Some v) = Some v.items
+abbrev pub key_bytes_of : Option (Vec ℕ) → Option (List ℕ)
+key_bytes_of None = None
+key_bytes_of (Some v) = Some v.items
 
 -- The input that a reading describes.
-abbrev pub reading_of : {S : ℕ} → GivenReading.Reading S → Input
-reading_of r = record {
+abbrev pub input_of_reading : {S : ℕ} → GivenReading.Reading S → Input
+input_of_reading r = record {
   salt = r.salt;
   persona = r.persona;
-  key = items_of r.key;
+  key = key_bytes_of r.key;
   tree = tree_of r.tree;
   last_node = r.last_node;
   message = r.message.items;

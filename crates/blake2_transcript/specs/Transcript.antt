@@ -6,7 +6,7 @@ use Rattle.std.specs.List.{concat}
 use Rattle.blake2_simd.specs.Family.{Family, block_bytes, output_bytes}
 use Rattle.blake2_compress.specs.Hash.{Flags, inner, Input, input_flags, input_parameters}
 use Rattle.blake2_compress.specs.Hash.{input_data, padded, block_count, parameter_words, Step}
-use Rattle.blake2_compress.specs.Inputs.{Accepts, Same}
+use Rattle.blake2_compress.specs.Inputs.{Accepts, SameUpToTrailingZeros}
 
 -- One compression by the arguments of F, except for the chaining words (3.2).
 pub record Entry : Type 0 where
@@ -23,12 +23,12 @@ abbrev pub entry : Step → Entry
 entry s = record { block = s.block; counter = s.counter; flags = s.flags }
 
 -- The step of an entry, with the chaining words h.
-abbrev pub step_at : List ℕ → Entry → Step
-step_at h e = record { chain = h; block = e.block; counter = e.counter; flags = e.flags }
+abbrev pub step_of_entry : List ℕ → Entry → Step
+step_of_entry h e = record { chain = h; block = e.block; counter = e.counter; flags = e.flags }
 
 -- The bytes of the blocks, in order.
-abbrev pub joined : List Entry → List ℕ
-joined entries = concat (map (λ (e : Entry). e.block) entries)
+abbrev pub joined_blocks : List Entry → List ℕ
+joined_blocks entries = concat (map (λ (e : Entry). e.block) entries)
 
 -- The words and the entries are the transcript of the input for a digest of this length, index by
 -- index and without F (3.3). The words are the parameter words, and there is an entry for each
@@ -44,30 +44,35 @@ pub record IsTranscript (f : Family) (words : List ℕ) (entries : List Entry) (
   pub ends : (d : Entry)
       → ((slice_index_or entries (length entries - 1) d).counter ≡ length (input_data f a))
       × ((slice_index_or entries (length entries - 1) d).flags ≡ input_flags a)
-  pub blocks : joined entries ≡ padded (length entries * block_bytes f) (input_data f a)
+  pub blocks : joined_blocks entries ≡ padded (length entries * block_bytes f) (input_data f a)
 
 -- ---- what a transcript is read as
 
 -- The words and the entries are the transcript of this accepted input, for a digest of this length.
-pub record Reads (f : Family) (words : List ℕ) (entries : List Entry) (size : ℕ) (a : Input)
+pub record DescribesAcceptedInput (f : Family) (words : List ℕ) (entries : List Entry) (size : ℕ)
+    (a : Input)
     : Type 0 where
   pub fits : size ≤ output_bytes f
   pub accepted : Accepts f a
   pub is : IsTranscript f words entries size a
 
 -- The words and the entries are the transcript of some accepted input, for some digest length.
-abbrev pub IsOfSomeInput : Family → List ℕ → List Entry → Type 0
-IsOfSomeInput f words entries = (size : ℕ) × (a : Input) × Reads f words entries size a
+abbrev pub DescribesSomeInput : Family → List ℕ → List Entry → Type 0
+DescribesSomeInput f words entries =
+    (size : ℕ) × (a : Input) × DescribesAcceptedInput f words entries size a
 
 -- The words and the entries are the transcript of this input for this digest length, and of no
 -- other length or input, except for zeros at the end of the salt or the personalization.
-pub record ReadsOnly (f : Family) (words : List ℕ) (entries : List Entry) (size : ℕ) (a : Input)
+pub record DescribesOnlyThisInput (f : Family) (words : List ℕ) (entries : List Entry) (size : ℕ)
+    (a : Input)
     : Type 0 where
-  pub reads : Reads f words entries size a
-  pub only : (other : ℕ) (b : Input) → Reads f words entries other b → (size ≡ other) × Same f a b
+  pub reads : DescribesAcceptedInput f words entries size a
+  pub only : (other : ℕ) (b : Input) → DescribesAcceptedInput f words entries other b
+      → (size ≡ other) × SameUpToTrailingZeros f a b
 
 -- The law that a transcript determines the digest length and the input, except for zeros at the end
 -- of the salt or the personalization.
-abbrev pub TranscriptsDetermine : Family → Type 0
-TranscriptsDetermine f = (words : List ℕ) (entries : List Entry) (size other : ℕ) (a b : Input)
-    → Reads f words entries size a → Reads f words entries other b → (size ≡ other) × Same f a b
+abbrev pub TranscriptDeterminesInput : Family → Type 0
+TranscriptDeterminesInput f = (words : List ℕ) (entries : List Entry) (size other : ℕ) (a b : Input)
+    → DescribesAcceptedInput f words entries size a → DescribesAcceptedInput f words entries other b
+    → (size ≡ other) × SameUpToTrailingZeros f a b

@@ -7,28 +7,32 @@ use Rattle.blake2_simd.specs.Family.{blake2b}
 use Rattle.blake2_compress.specs.Hash.{digest}
 use Rattle.blake2_tree.specs.TreeRoot.{TreeParameters, node}
 use Rattle.blake2_tree.specs.LeafRanges.{range_digests}
-use Rattle.blake2_tree.specs.OpenTrees.{digests_to_come}
-use Rattle.blake2_tree.proofs.MessageLeaves.{range_digests-short, range_digests-long}
+use Rattle.blake2_tree.specs.OpenTrees.{remaining_leaf_digests}
+use Rattle.blake2_tree.proofs.MessageLeaves.{range_digests-single_leaf}
+use Rattle.blake2_tree.proofs.MessageLeaves.{range_digests-first_leaf_and_rest}
 
 -- The digests that y adds to an open leaf that has absorbed nothing are those of the leaves of y.
-pub digests_to_come-begun : (s : TreeParameters) (first : ℕ) (y : List ℕ) → 0 < s.leaf_length
-    → digests_to_come s (λ last z. digest blake2b 64 (node s first 0 last z)) s.leaf_length
+pub remaining_leaf_digests-empty_leaf : (s : TreeParameters) (first : ℕ) (y : List ℕ)
+    → 0 < s.leaf_length
+    → remaining_leaf_digests s (λ last z. digest blake2b 64 (node s first 0 last z)) s.leaf_length
     (first + 1) y ≡ range_digests s first true y
-unfolding digests_to_come
-digests_to_come-begun s first y some = elim (cases_lt s.leaf_length (length y)) [
+unfolding remaining_leaf_digests
+remaining_leaf_digests-empty_leaf s first y some = elim (cases_lt s.leaf_length (length y)) [
   | inr short ↦ rw (le-leb (length y) s.leaf_length short)
-      (sym (range_digests-short s first true y some short))
+      (sym (range_digests-single_leaf s first true y some short))
   | inl long ↦ rw (lt-leb (length y) s.leaf_length long)
-      (sym (range_digests-long s first true y some long))
+      (sym (range_digests-first_leaf_and_rest s first true y some long))
 ]
 
 -- The open leaf absorbs the beginning x of what comes.
-pub digests_to_come-took : (s : TreeParameters) (before after : Bool → List ℕ → List ℕ)
+pub remaining_leaf_digests-after_prefix : (s : TreeParameters)
+    (before after : Bool → List ℕ → List ℕ)
     (room next : ℕ) (x y : List ℕ) → length x ≤ room
     → ((last : Bool) (z : List ℕ) → after last z ≡ before last (x ++ z))
-    → digests_to_come s after (room - length x) next y ≡ digests_to_come s before room next (x ++ y)
-unfolding digests_to_come
-digests_to_come-took s before after room next x y fits took =
+    → remaining_leaf_digests s after (room - length x) next y
+    ≡ remaining_leaf_digests s before room next (x ++ y)
+unfolding remaining_leaf_digests
+remaining_leaf_digests-after_prefix s before after room next x y fits took =
     let size : length (x ++ y) ≡ length x + length y = length-append x y in
     elim (cases_lt room (length (x ++ y))) [
       | inr short ↦ rw (
@@ -51,14 +55,16 @@ digests_to_come-took s before after room next x y fits took =
     ]
 
 -- If nothing comes, the open leaf is the last.
-pub digests_to_come-nothing : (s : TreeParameters) (open_leaf : Bool → List ℕ → List ℕ)
-    (room next : ℕ) → digests_to_come s open_leaf room next [] ≡ open_leaf true []
-unfolding digests_to_come
-digests_to_come-nothing s open_leaf room next = rw (le-leb 0 room (omega arith)) refl
+pub remaining_leaf_digests-without_input : (s : TreeParameters) (open_leaf : Bool → List ℕ → List ℕ)
+    (room next : ℕ) → remaining_leaf_digests s open_leaf room next [] ≡ open_leaf true []
+unfolding remaining_leaf_digests
+remaining_leaf_digests-without_input s open_leaf room next = rw (le-leb 0 room (omega arith)) refl
 
 -- A full leaf is not the last, if something comes.
-pub digests_to_come-full : (s : TreeParameters) (open_leaf : Bool → List ℕ → List ℕ) (next : ℕ)
+pub remaining_leaf_digests-full_leaf : (s : TreeParameters) (open_leaf : Bool → List ℕ → List ℕ)
+    (next : ℕ)
     (y : List ℕ) → 0 < length y
-    → digests_to_come s open_leaf 0 next y ≡ open_leaf false [] ++ range_digests s next true y
-unfolding digests_to_come
-digests_to_come-full s open_leaf next y some = rw (lt-leb (length y) 0 some) refl
+    → remaining_leaf_digests s open_leaf 0 next y
+    ≡ open_leaf false [] ++ range_digests s next true y
+unfolding remaining_leaf_digests
+remaining_leaf_digests-full_leaf s open_leaf next y some = rw (lt-leb (length y) 0 some) refl

@@ -15,7 +15,7 @@ abbrev pub node_digest : ℕ → TreeParameters → ℕ → ℕ → Bool → Lis
 node_digest size p offset depth last bytes = digest blake2b size (node p offset depth last bytes)
 
 -- The leaf at this index has just been opened, and has absorbed nothing.
-pub record IsOpened {S : Type 0} (m : Meaning S) (p : TreeParameters) (place : ℕ) (leaf : S)
+pub record IsFreshLeaf {S : Type 0} (m : Meaning S) (p : TreeParameters) (place : ℕ) (leaf : S)
     : Type 0 where
   pub digests : (last : Bool) (z : List ℕ)
       → m.future leaf last z ≡ node_digest 64 p place 0 last z
@@ -23,8 +23,8 @@ pub record IsOpened {S : Type 0} (m : Meaning S) (p : TreeParameters) (place : �
 
 -- The digests of four whole leaves from index `first` on, which are the first four in `text`. The
 -- flag says whether the fourth is the last leaf of the tree.
-abbrev pub four_digests : TreeParameters → ℕ → Bool → List ℕ → List (List ℕ)
-four_digests p first last text =
+abbrev pub digests_of_four_leaves : TreeParameters → ℕ → Bool → List ℕ → List (List ℕ)
+digests_of_four_leaves p first last text =
     node_digest 64 p first 0 false (leaf p.leaf_length text 0)
     ∷ node_digest 64 p (first + 1) 0 false (leaf p.leaf_length text 1)
     ∷ node_digest 64 p (first + 2) 0 false (leaf p.leaf_length text 2)

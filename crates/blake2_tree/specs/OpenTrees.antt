@@ -9,8 +9,9 @@ use Rattle.blake2_tree.specs.LeafRanges.{range_digests}
 -- The digests that y adds, if the open leaf has room for `room` more bytes, and has the digest
 -- `open_leaf` after them, as the last leaf or not. If y fits, that leaf is the last. Otherwise the
 -- leaf is full, and the rest of y makes the leaves from index `next` on.
-unfoldable pub digests_to_come : TreeParameters → (Bool → List ℕ → List ℕ) → ℕ → ℕ → List ℕ → List ℕ
-digests_to_come p open_leaf room next y =
+unfoldable pub remaining_leaf_digests : TreeParameters → (Bool → List ℕ → List ℕ) → ℕ → ℕ → List ℕ
+    → List ℕ
+remaining_leaf_digests p open_leaf room next y =
     if nat_le (length y) room then open_leaf true y
     else open_leaf false (take room y) ++ range_digests p next true (drop room y)
 
@@ -43,21 +44,21 @@ room t = t.shared.leaf_length - t.taken
 
 -- The root that the tree returns after it absorbs y too.
 unfoldable pub future : OpenTree → List ℕ → List ℕ
-future t y = t.root (digests_to_come t.shared t.leaf (room t) (t.closed + 1) y)
+future t y = t.root (remaining_leaf_digests t.shared t.leaf (room t) (t.closed + 1) y)
 
 -- The number of bytes that the tree has absorbed.
 abbrev pub count : OpenTree → ℕ
 count t = t.closed * t.shared.leaf_length + t.taken
 
 -- The new tree is the old one after it absorbs x.
-pub record Took (old : OpenTree) (x : List ℕ) (new : OpenTree) : Type 0 where
+pub record HasAbsorbed (old : OpenTree) (x : List ℕ) (new : OpenTree) : Type 0 where
   pub shared : new.shared ≡ old.shared
   pub future : (y : List ℕ) → future new y ≡ future old (x ++ y)
   pub count : count new ≡ count old + length x
 
 -- The new tree and the rest are the old tree and the input, after some bytes of the input went into
 -- the tree.
-pub record WentOn (old : OpenTree) (input : List ℕ) (new : OpenTree) (rest : List ℕ)
+pub record HasAbsorbedPrefix (old : OpenTree) (input : List ℕ) (new : OpenTree) (rest : List ℕ)
     : Type 0 where
   pub shared : new.shared ≡ old.shared
   pub future : (y : List ℕ) → future new (rest ++ y) ≡ future old (input ++ y)

@@ -21,5 +21,5 @@ abbrev pub count : {n : ℕ} → TreeHasher n → ℕ
 count t = Open.count (held_tree t)
 
 -- The new hasher is the old one after it absorbs x.
-abbrev pub Took : {n : ℕ} → TreeHasher n → List ℕ → TreeHasher n → Type 0
-Took old x new = Open.Took (held_tree old) x (held_tree new)
+abbrev pub HasAbsorbed : {n : ℕ} → TreeHasher n → List ℕ → TreeHasher n → Type 0
+HasAbsorbed old x new = Open.HasAbsorbed (held_tree old) x (held_tree new)

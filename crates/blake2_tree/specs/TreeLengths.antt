@@ -10,8 +10,8 @@ pub record TreeLengths : Type 0 where
   pub leaf : ℕ
 
 -- The lengths of a tree with these parameters and a root of `size` bytes.
-abbrev pub lengths_of : ℕ → TreeParameters → TreeLengths
-lengths_of size p = record {
+abbrev pub tree_lengths_of : ℕ → TreeParameters → TreeLengths
+tree_lengths_of size p = record {
   root = size;
   salt = length p.salt;
   persona = length p.persona;
@@ -19,7 +19,7 @@ lengths_of size p = record {
 }
 
 -- The root, the salt, the personalization and a leaf have lengths that a tree accepts.
-pub record AcceptsLengths (l : TreeLengths) : Type 0 where
+pub record AreAcceptedTreeLengths (l : TreeLengths) : Type 0 where
   pub least : 1 ≤ l.root
   pub most : l.root ≤ 64
   pub salt_fits : l.salt ≤ 16

@@ -33,8 +33,8 @@ leaf = piece
 
 -- The tree parameters of a node (the BLAKE2 document, 2.8 and 2.10): the fanout 0 is unlimited,
 -- there are two levels, and the digests of inner nodes have 64 bytes.
-abbrev pub tree_place : ℕ → ℕ → ℕ → Tree
-tree_place leaf_length offset depth = record {
+abbrev pub node_tree_parameters : ℕ → ℕ → ℕ → Tree
+node_tree_parameters leaf_length offset depth = record {
   fanout = 0;
   depth = 2;
   leaf_length = leaf_length;
@@ -50,7 +50,7 @@ node p offset depth last bytes = record {
   salt = p.salt;
   persona = p.persona;
   key = None;
-  tree = tree_place p.leaf_length offset depth;
+  tree = node_tree_parameters p.leaf_length offset depth;
   last_node = last;
   message = bytes;
 }
@@ -69,12 +69,12 @@ leaf_digests p message =
 
 -- The root over these digests as an input: its depth is 1, its offset is 0, and its last-node flag
 -- is on.
-abbrev pub root_over : TreeParameters → List ℕ → Input
-root_over p digests = node p 0 1 true digests
+abbrev pub root_input_over_digests : TreeParameters → List ℕ → Input
+root_input_over_digests p digests = node p 0 1 true digests
 
 -- The root of a message as an input, over the digests of its leaves.
 abbrev pub root_input : TreeParameters → List ℕ → Input
-root_input p message = root_over p (leaf_digests p message)
+root_input p message = root_input_over_digests p (leaf_digests p message)
 
 -- The digest of the tree: that of its root, in `size` bytes.
 unfoldable pub tree_root : ℕ → TreeParameters → List ℕ → List ℕ

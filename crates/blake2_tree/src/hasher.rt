@@ -3,7 +3,7 @@
 ghost use Rattle.std.specs.Prelude.{◌≡◌, ℕ, ◌+◌, ◌*◌, ◌^◌, ◌<◌, ◌≤◌, List, [], ◌++◌, length, true};
 ghost use Rattle.std.specs.Prelude.{false, ◌/◌, ◌%◌, ◌↔◌, IsTrue};
 ghost use Rattle.blake2.specs.Hashers.{blake2b_meaning};
-ghost use Rattle.blake2_tree.specs.NodeViews.{shared_parameters, IsOpened};
+ghost use Rattle.blake2_tree.specs.NodeViews.{shared_parameters, IsFreshLeaf};
 ghost use Rattle.blake2_tree.specs.LeafRanges.{AreWholeLeaves, range_digests};
 ghost use Rattle.blake2_tree.specs.TreeRoot.{tree_parameters, tree_root as root_of};
 
@@ -31,16 +31,18 @@ pub struct TreeHasher<const N: usize> {
     ghost digests_taken: { (blake2b_meaning N).count root ≡ 64 * closed },
     // A leaf that has no bytes yet is as it was opened.
     ghost opened: { (blake2b_meaning 64).count leaf ≡ 0
-        → IsOpened (blake2b_meaning 64) (shared_parameters nodes) closed leaf },
+        → IsFreshLeaf (blake2b_meaning 64) (shared_parameters nodes) closed leaf },
     // The digest of the open leaf still fits the root's count.
     ghost one_more_fits: { closed + 1 < 2 ^ 58 },
 }
 
 impl<const N: usize> TreeHasher<N> {
-    ghost use Rattle.blake2_tree.specs.OpenTrees.{room, WentOn};
-    ghost use Rattle.blake2_tree.specs.LeafUpdates.{IsAtBoundary, next_leaf, AcceptsLeaves};
-    ghost use Rattle.blake2_tree.specs.LeafUpdates.{TookLeaves, TookDigests, root_after};
-    ghost use Rattle.blake2_tree.specs.TreeHashers.{held_tree, future, count, Took};
+    ghost use Rattle.blake2_tree.specs.OpenTrees.{room, HasAbsorbedPrefix};
+    ghost use Rattle.blake2_tree.specs.LeafUpdates.{IsAtLeafBoundary, next_leaf_index};
+    ghost use Rattle.blake2_tree.specs.LeafUpdates.{AcceptsLeafDigests};
+    ghost use Rattle.blake2_tree.specs.LeafUpdates.{HasAbsorbedLeaves, HasAbsorbedDigests};
+    ghost use Rattle.blake2_tree.specs.LeafUpdates.{root_after_leaf_digests};
+    ghost use Rattle.blake2_tree.specs.TreeHashers.{held_tree, future, count, HasAbsorbed};
 
     /// Returns a hasher that has absorbed nothing. Salt and persona have at most 16 bytes each,
     /// and a leaf has `leaf_length` bytes, 1 to 2^32 - 1.
@@ -68,7 +70,7 @@ impl<const N: usize> TreeHasher<N> {
     /// 2^58 bytes in all; `counted` returns the count so far.
     pub fn update(&mut self, input: &[u8])
         requires { count self.old + length input.now < 2 ^ 58 }
-        ensures { Took self.old input.now self.new }
+        ensures { HasAbsorbed self.old input.now self.new }
     {
         let mut rest = input;
         while rest.len() as u64 > self.room() {
@@ -83,7 +85,7 @@ impl<const N: usize> TreeHasher<N> {
 
     /// Returns whether what was absorbed is whole leaves, or nothing.
     pub fn is_at_boundary(&self) -> bool
-        ensures { IsTrue result ↔ IsAtBoundary (held_tree self.now) }
+        ensures { IsTrue result ↔ IsAtLeafBoundary (held_tree self.now) }
     {
         self.counted() % u64::from(self.nodes.leaf_length) == 0
     }
@@ -93,7 +95,8 @@ impl<const N: usize> TreeHasher<N> {
     /// stays below 2^58 bytes. If there are digests, the hasher must be at a leaf boundary, and
     /// at least one byte of input follows them.
     pub fn accepts_leaves(&self, digests_length: usize, input_length: usize) -> bool
-        ensures { IsTrue result ↔ AcceptsLeaves (held_tree self.now) digests_length input_length }
+        ensures { IsTrue result ↔ AcceptsLeafDigests (held_tree self.now) digests_length
+            input_length }
     {
         let leaves = digests_length as u64 / 64;
         let is_in_place = digests_length == 0 || (input_length > 0 && self.is_at_boundary());
@@ -110,9 +113,10 @@ impl<const N: usize> TreeHasher<N> {
     /// must come at a leaf boundary, and at least one byte of input after them. Without digests
     /// the call is an `update`. [`TreeHasher::accepts_leaves`] must be true of the two lengths.
     pub fn update_leaves(&mut self, digests: &[u8], input: &[u8])
-        requires { AcceptsLeaves (held_tree self.old) (length digests.now) (length input.now) }
-        ensures took { TookLeaves (held_tree self.old) digests.now input.now (held_tree self.new) }
-        ensures digests { TookDigests (held_tree self.old) digests.now input.now
+        requires { AcceptsLeafDigests (held_tree self.old) (length digests.now) (length input.now) }
+        ensures took { HasAbsorbedLeaves (held_tree self.old) digests.now input.now
+            (held_tree self.new) }
+        ensures digests { HasAbsorbedDigests (held_tree self.old) digests.now input.now
             (held_tree self.new) }
     {
         if digests.is_empty() {
@@ -158,7 +162,7 @@ impl<const N: usize> TreeHasher<N> {
     fn close_leaf<'a>(&mut self, input: &'a [u8]) -> &'a [u8]
         requires more { room (held_tree self.old) < length input.now }
         requires fits { count self.old + length input.now < 2 ^ 58 }
-        ensures { WentOn (held_tree self.old) input.now (held_tree self.new) result.now }
+        ensures { HasAbsorbedPrefix (held_tree self.old) input.now (held_tree self.new) result.now }
     {
         let (head, rest) = input.split_at(self.room() as usize);
         self.leaf.update(head);
@@ -186,13 +190,13 @@ impl<const N: usize> TreeHasher<N> {
 
     // Closes the open leaf if it is full, so that the open one is empty: more follows.
     fn begin_leaf(&mut self)
-        requires boundary { IsAtBoundary (held_tree self.old) }
+        requires boundary { IsAtLeafBoundary (held_tree self.old) }
         requires fits { count self.old + 1 < 2 ^ 58 }
         ensures future { (y : List ℕ) → 0 < length y → future self.new y ≡ future self.old y }
         ensures root { (z : List ℕ)
-            → (held_tree self.new).root z ≡ root_after (held_tree self.old) z }
+            → (held_tree self.new).root z ≡ root_after_leaf_digests (held_tree self.old) z }
         ensures count { count self.new ≡ count self.old }
-        ensures closed { self.new.closed ≡ next_leaf (held_tree self.old) }
+        ensures closed { self.new.closed ≡ next_leaf_index (held_tree self.old) }
         ensures nodes { self.new.nodes ≡ self.old.nodes }
         ensures empty { (blake2b_meaning 64).count self.new.leaf ≡ 0 }
     {
@@ -231,7 +235,8 @@ impl<const N: usize> TreeHasher<N> {
         requires empty { (blake2b_meaning 64).count self.old.leaf ≡ 0 }
         requires more { 4 * self.old.nodes.leaf_length < length input.now }
         requires fits { count self.old + length input.now < 2 ^ 58 }
-        ensures went_on { WentOn (held_tree self.old) input.now (held_tree self.new) result.now }
+        ensures went_on { HasAbsorbedPrefix (held_tree self.old) input.now (held_tree self.new)
+            result.now }
         ensures empty { (blake2b_meaning 64).count self.new.leaf ≡ 0 }
     {
         let mut digests = [0; 512];

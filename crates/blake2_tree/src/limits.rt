@@ -2,7 +2,7 @@
 
 ghost use Rattle.std.specs.Prelude.{◌≡◌, ℕ, ◌+◌, ◌*◌, ◌^◌, ◌<◌, ◌≤◌, ◌↔◌, ◌⊎◌, IsTrue};
 ghost use Rattle.blake2_tree.specs.PieceLengths.{best_piece_length};
-ghost use Rattle.blake2_tree.specs.TreeLengths.{AcceptsLengths};
+ghost use Rattle.blake2_tree.specs.TreeLengths.{AreAcceptedTreeLengths};
 
 /// A message has fewer bytes than this: so the digests of leaves of one byte still fit the count of
 /// the root, which is below 2^64.
@@ -14,7 +14,7 @@ pub const LABEL_BYTES: usize = 16;
 /// Returns whether a tree accepts these lengths: a root of 1 to 64 bytes, a salt and a persona of
 /// up to 16 bytes each, and leaves of at least 1 byte.
 pub fn accepts(root_size: usize, salt: usize, persona: usize, leaf_length: u32) -> bool
-    ensures { IsTrue result ↔ AcceptsLengths
+    ensures { IsTrue result ↔ AreAcceptedTreeLengths
         (record { root = root_size; salt = salt; persona = persona; leaf = leaf_length }) }
 {
     root_size >= 1

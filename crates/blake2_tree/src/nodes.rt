@@ -7,10 +7,10 @@ ghost use Rattle.blake2_digest.specs.States.{Fresh};
 ghost use Rattle.blake2_simd.specs.Family.{blake2b};
 ghost use Rattle.blake2_compress.specs.Inputs.{Accepts};
 ghost use Rattle.blake2_compress.specs.Views.{tree_of, input_of};
-ghost use Rattle.blake2_tree.specs.TreeRoot.{tree_place, node, leaf_count, leaf_digests};
+ghost use Rattle.blake2_tree.specs.TreeRoot.{node_tree_parameters, node, leaf_count, leaf_digests};
 ghost use Rattle.blake2_tree.specs.TreeRoot.{leaf_input};
-ghost use Rattle.blake2_tree.specs.TreeRoot.{root_over, tree_parameters};
-ghost use Rattle.blake2_tree.specs.LeafRanges.{IsRange, range_digests, with_part};
+ghost use Rattle.blake2_tree.specs.TreeRoot.{root_input_over_digests, tree_parameters};
+ghost use Rattle.blake2_tree.specs.LeafRanges.{IsLeafRange, range_digests, overwritten_from};
 
 use crate::kept_salt::KeptSalt;
 use crate::ranges::leaf_count;
@@ -33,13 +33,14 @@ pub struct Nodes {
 // Writes the bytes from index `at` on.
 fn write_at(out: &mut [u8], at: usize, bytes: &[u8])
     requires { at + length bytes.now ≤ length out.old }
-    ensures { out.new ≡ with_part at bytes.now out.old }
+    ensures { out.new ≡ overwritten_from at bytes.now out.old }
 {
     out[at..at + bytes.len()].copy_from_slice(bytes);
 }
 
 impl Nodes {
-    ghost use Rattle.blake2_tree.specs.NodeViews.{shared_parameters, node_digest, four_digests};
+    ghost use Rattle.blake2_tree.specs.NodeViews.{shared_parameters, node_digest};
+    ghost use Rattle.blake2_tree.specs.NodeViews.{digests_of_four_leaves};
 
     /// Returns what all nodes of a tree share: salt and persona, at most 16 bytes each, and the
     /// number of bytes of a leaf, at least 1.
@@ -76,7 +77,7 @@ impl Nodes {
     /// root's, at offset 0.
     pub fn place(&self, node_offset: u64, node_depth: u8) -> Tree
         ensures { tree_of result
-            ≡ tree_place (shared_parameters self.now).leaf_length node_offset node_depth }
+            ≡ node_tree_parameters (shared_parameters self.now).leaf_length node_offset node_depth }
     {
         Tree {
             fanout: 0,
@@ -133,7 +134,8 @@ impl Nodes {
 
     /// Returns the root over the joined digests of the leaves, as an input.
     pub(crate) fn root<'a>(&'a self, digests: &'a [u8]) -> Input<'a>
-        ensures is { input_of result ≡ root_over (shared_parameters self.now) digests.now }
+        ensures is { input_of result ≡ root_input_over_digests (shared_parameters self.now)
+            digests.now }
         ensures accepted { Accepts blake2b (input_of result) }
     {
         self.node(0, 1, true, digests)
@@ -153,7 +155,7 @@ impl Nodes {
     pub fn hash_four(&self, i: u64, last: bool, text: &[u8]) -> [[u8; 64]; 4]
         requires place { i + 3 < 2 ^ 64 }
         requires whole { 4 * self.now.leaf_length ≤ length text.now }
-        ensures { result ≡ four_digests (shared_parameters self.now) i last text.now }
+        ensures { result ≡ digests_of_four_leaves (shared_parameters self.now) i last text.now }
     {
         let length = self.leaf_length as usize;
         let leaves = [
@@ -169,8 +171,8 @@ impl Nodes {
     fn hash_eight(&self, i: u64, text: &[u8]) -> [[u8; 64]; 8]
         requires place { i + 7 < 2 ^ 64 }
         requires whole { 8 * self.now.leaf_length ≤ length text.now }
-        ensures { result ≡ four_digests (shared_parameters self.now) i false text.now
-            ++ four_digests (shared_parameters self.now) (i + 4) false
+        ensures { result ≡ digests_of_four_leaves (shared_parameters self.now) i false text.now
+            ++ digests_of_four_leaves (shared_parameters self.now) (i + 4) false
             (drop (4 * self.now.leaf_length) text.now) }
     {
         let length = self.leaf_length as usize;
@@ -240,7 +242,7 @@ impl Nodes {
     /// whether the last of them is the message's last. `out` must have exactly 64 bytes for each
     /// leaf.
     pub(crate) fn write_digests(&self, first: u64, ends: bool, bytes: &[u8], out: &mut [u8])
-        requires range { IsRange self.now.leaf_length first ends (length bytes.now) }
+        requires range { IsLeafRange self.now.leaf_length first ends (length bytes.now) }
         requires room { length out.old ≡ 64 * leaf_count self.now.leaf_length (length bytes.now) }
         ensures { out.new ≡ range_digests (shared_parameters self.now) first ends bytes.now }
     {

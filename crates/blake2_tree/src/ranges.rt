@@ -5,9 +5,10 @@
 ghost use Rattle.std.specs.Prelude.{◌≡◌, ◌*◌, ◌<◌, ◌≤◌, ◌↔◌, length, IsTrue};
 ghost use Rattle.blake2_simd.specs.Family.{blake2b};
 ghost use Rattle.blake2_compress.specs.Hash.{digest};
-ghost use Rattle.blake2_tree.specs.TreeRoot.{leaf_count, root_over, tree_parameters};
-ghost use Rattle.blake2_tree.specs.LeafRanges.{IsRange, range_digests, ArePartOfAll, IsRootOfCuts};
-ghost use Rattle.blake2_tree.specs.LeafRanges.{IsRootOfChanges};
+ghost use Rattle.blake2_tree.specs.TreeRoot.{leaf_count, root_input_over_digests, tree_parameters};
+ghost use Rattle.blake2_tree.specs.LeafRanges.{IsLeafRange, range_digests};
+ghost use Rattle.blake2_tree.specs.LeafRanges.{AreDigestsInEveryMessage, IsRootOfCuts};
+ghost use Rattle.blake2_tree.specs.LeafRanges.{IsRootAfterReplacement};
 
 use crate::limits::MESSAGE_LIMIT;
 use crate::nodes::Nodes;
@@ -28,7 +29,7 @@ pub fn leaf_count(leaf_length: u32, message_length: u64) -> u64
 /// the first 2^58 - 1 bytes. A leaf has `leaf_length` bytes, at least 1.
 pub fn is_range(leaf_length: u32, first: u64, ends: bool, range_length: u64) -> bool
     requires { 1 ≤ leaf_length }
-    ensures { IsTrue result ↔ IsRange leaf_length first ends range_length }
+    ensures { IsTrue result ↔ IsLeafRange leaf_length first ends range_length }
 {
     let leaf = u64::from(leaf_length);
     let has_bytes = range_length > 0 || (ends && first == 0);
@@ -57,11 +58,12 @@ pub fn hash_leaves(
     requires salt { length salt.now ≤ 16 }
     requires persona { length persona.now ≤ 16 }
     requires leaf_length { 1 ≤ leaf_length }
-    requires range { IsRange leaf_length first ends (length bytes.now) }
+    requires range { IsLeafRange leaf_length first ends (length bytes.now) }
     requires room { length digests.old ≡ 64 * leaf_count leaf_length (length bytes.now) }
     ensures digests { digests.new ≡ range_digests
         (tree_parameters salt.now persona.now leaf_length) first ends bytes.now }
-    ensures part { ArePartOfAll (tree_parameters salt.now persona.now leaf_length) first ends
+    ensures part { AreDigestsInEveryMessage (tree_parameters salt.now persona.now leaf_length) first
+        ends
         bytes.now digests.new }
 {
     Nodes::new(salt, persona, leaf_length).write_digests(first, ends, bytes, digests);
@@ -91,10 +93,10 @@ pub fn root_of_leaves<const N: usize>(
     requires persona { length persona.now ≤ 16 }
     requires leaf_length { 1 ≤ leaf_length }
     ensures root { result ≡ digest blake2b N
-        (root_over (tree_parameters salt.now persona.now leaf_length) digests.now) }
+        (root_input_over_digests (tree_parameters salt.now persona.now leaf_length) digests.now) }
     ensures cuts { IsRootOfCuts N (tree_parameters salt.now persona.now leaf_length) digests.now
         result }
-    ensures changes { IsRootOfChanges N (tree_parameters salt.now persona.now leaf_length)
+    ensures changes { IsRootAfterReplacement N (tree_parameters salt.now persona.now leaf_length)
         digests.now result }
 {
     Nodes::new(salt, persona, leaf_length).root_of(digests)

@@ -3,11 +3,14 @@
 //! [`hash_leaves`](crate::hash_leaves), and writes the digests where the part says.
 
 ghost use Rattle.std.specs.Prelude.{◌≡◌, ◌+◌, ◌-◌, ◌*◌, ◌/◌, ◌%◌, ◌^◌, ◌<◌, ◌≤◌, ◌↔◌, IsTrue};
-ghost use Rattle.blake2_tree.specs.PartPlans.{AreLimits, threads_for, leaves_per_thread};
+ghost use Rattle.blake2_tree.specs.PartPlans.{AreValidLimits, threads_for, leaves_per_thread};
 ghost use Rattle.blake2_tree.specs.PartPlans.{part_leaves, IsPlanOf};
-ghost use Rattle.blake2_tree.specs.PartPlans.{IsPlan, IsPart, IsInOrder, AreParts, head_length};
-ghost use Rattle.blake2_tree.specs.PartPlans.{whole_length, IsOfUpdate, HasDigests, HasLeafDigests};
-ghost use Rattle.blake2_tree.specs.PartPlans.{HasParts, HasRest, length_of_digests};
+ghost use Rattle.blake2_tree.specs.PartPlans.{IsConsistentPlan, IsPartAt, IsPartInOrder};
+ghost use Rattle.blake2_tree.specs.PartPlans.{HasPartsWithinLimits, open_leaf_fill_length};
+ghost use Rattle.blake2_tree.specs.PartPlans.{whole_leaves_length, IsPlanOfUpdate};
+ghost use Rattle.blake2_tree.specs.PartPlans.{HasMessageDigests, HasLeafDigests};
+ghost use Rattle.blake2_tree.specs.PartPlans.{HasWholeLeafParts, HasRestOfUpdate};
+ghost use Rattle.blake2_tree.specs.PartPlans.{length_of_digests};
 
 use crate::limits::MESSAGE_LIMIT;
 use crate::ranges::leaf_count;
@@ -75,14 +78,14 @@ pub struct Part {
 impl Limits {
     /// Returns whether these are limits of a plan: threads and least bytes are at least 1.
     pub fn are_limits(&self) -> bool
-        ensures { IsTrue result ↔ AreLimits self.now }
+        ensures { IsTrue result ↔ AreValidLimits self.now }
     {
         self.threads >= 1 && self.least_bytes >= 1
     }
 
     // The number of threads that a plan of this number of bytes has, if there are enough parts.
     fn threads_for(&self, length: u64) -> u64
-        requires { AreLimits self.now }
+        requires { AreValidLimits self.now }
         ensures is { result ≡ threads_for self.now length }
         ensures some { 1 ≤ result }
     {
@@ -161,9 +164,9 @@ impl Plan {
         requires length { length < 2 ^ 58 }
         requires fits { start + length < 2 ^ 64 }
         requires flag { ends ≤ 1 }
-        ensures whole { HasParts result }
+        ensures whole { HasWholeLeafParts result }
         ensures is { IsPlanOf limits.now threads leaf_length start length ends result }
-        ensures parts { AreParts limits.now threads leaf_length length result }
+        ensures parts { HasPartsWithinLimits limits.now threads leaf_length length result }
         ensures rest { result.rest_length ≡ 0 }
     {
         let leaves = limits.part_leaves(threads, leaf_length, length);
@@ -190,17 +193,18 @@ impl Plan {
     /// order of the parts, [`root_of_leaves`](crate::root_of_leaves) returns the root of the
     /// message.
     pub fn of_message(leaf_length: u32, start: u64, length: u64, limits: &Limits) -> Self
-        requires limits { AreLimits limits.now }
+        requires limits { AreValidLimits limits.now }
         requires leaf_length { 1 ≤ leaf_length }
         requires length { length < 2 ^ 58 }
         requires fits { start + length < 2 ^ 64 }
-        ensures plan { IsPlan result }
+        ensures plan { IsConsistentPlan result }
         ensures is { IsPlanOf limits.now (threads_for limits.now length) leaf_length start length 1
             result }
-        ensures parts { AreParts limits.now (threads_for limits.now length) leaf_length length
+        ensures parts { HasPartsWithinLimits limits.now (threads_for limits.now length) leaf_length
+            length
             result }
         ensures rest { result.rest_length ≡ 0 }
-        ensures digests { HasDigests result }
+        ensures digests { HasMessageDigests result }
     {
         let threads = limits.threads_for(length);
         Self::of(limits, threads, leaf_length, start, length, 1)
@@ -215,16 +219,17 @@ impl Plan {
     ///
     /// A leaf has `leaf_length` bytes, at least 1, and [`Limits::are_limits`] is true.
     pub fn of_update(leaf_length: u32, counted: u64, length: u64, limits: &Limits) -> Self
-        requires limits { AreLimits limits.now }
+        requires limits { AreValidLimits limits.now }
         requires leaf_length { 1 ≤ leaf_length }
         requires length { counted + length < 2 ^ 58 }
-        ensures plan { IsPlan result }
+        ensures plan { IsConsistentPlan result }
         ensures is { IsPlanOf limits.now (threads_for limits.now length) leaf_length
-            (head_length leaf_length counted length) (whole_length leaf_length counted length) 0
+            (open_leaf_fill_length leaf_length counted length)
+            (whole_leaves_length leaf_length counted length) 0
             result }
-        ensures parts { AreParts limits.now (threads_for limits.now length) leaf_length
-            (whole_length leaf_length counted length) result }
-        ensures update { IsOfUpdate leaf_length counted length result }
+        ensures parts { HasPartsWithinLimits limits.now (threads_for limits.now length) leaf_length
+            (whole_leaves_length leaf_length counted length) result }
+        ensures update { IsPlanOfUpdate leaf_length counted length result }
         ensures digests { HasLeafDigests result }
     {
         let threads = limits.threads_for(length);
@@ -239,7 +244,7 @@ impl Plan {
 
     // Whether the parts are of whole leaves.
     fn has_parts(&self) -> bool
-        ensures { IsTrue result ↔ HasParts self.now }
+        ensures { IsTrue result ↔ HasWholeLeafParts self.now }
     {
         self.leaf_length >= 1
             && self.leaf_length <= u64::from(u32::MAX)
@@ -256,8 +261,8 @@ impl Plan {
 
     // Whether the leaves are those of an update.
     fn is_of_update(&self) -> bool
-        requires { HasParts self.now }
-        ensures { IsTrue result ↔ HasRest self.now }
+        requires { HasWholeLeafParts self.now }
+        ensures { IsTrue result ↔ HasRestOfUpdate self.now }
     {
         self.start < self.leaf_length
             && (self.end - self.start) % self.leaf_length == 0
@@ -269,7 +274,7 @@ impl Plan {
     /// Returns whether these are the numbers of a plan, as [`Plan::part`] requires: whether they
     /// agree with each other, as those of each plan do.
     pub fn is_plan(&self) -> bool
-        ensures { IsTrue result ↔ IsPlan self.now }
+        ensures { IsTrue result ↔ IsConsistentPlan self.now }
     {
         if !self.has_parts() {
             return false;
@@ -293,10 +298,10 @@ impl Plan {
     /// The parts are disjoint and in order, from where the leaves begin to where they end. None is
     /// empty, except that of an empty message.
     pub fn part(&self, i: u64) -> Part
-        requires plan { IsPlan self.now }
+        requires plan { IsConsistentPlan self.now }
         requires within { i < self.now.part_count }
-        ensures is { IsPart self.now i result }
-        ensures order { IsInOrder self.now i result }
+        ensures is { IsPartAt self.now i result }
+        ensures order { IsPartInOrder self.now i result }
     {
         let start = self.start + i * self.part_length;
         let length = self.part_length.min(self.end - start);

@@ -5,28 +5,30 @@ use Rattle.std.proofs.lemmas.List.{take_at, drop_at}
 use Rattle.blake2_simd.specs.Family.{Family, blake2b, blake2s, block_bytes, key_bytes}
 use Rattle.blake2_compress.specs.Hash.{key_block, padded, parameter_block}
 use Rattle.blake2_compress.proofs.ByteSizes.{length-padded}
-use Rattle.blake2_xof.specs.Xof.{DerivationsDiffer, IsKnown, root_block, settings}
+use Rattle.blake2_xof.specs.Xof.{DerivationsDiffer, IsKnownLength, root_parameter_block, settings}
 
 -- A number is known by the bytes of its field in the upper half of the node offset.
-same_length : (f : Family) (n n' : ℕ) (key key' : List ℕ) → IsKnown f n → IsKnown f n'
-    → root_block f (settings n key [] []) ≡ root_block f (settings n' key' [] [])
+length-same_if_root_blocks_same : (f : Family) (n n' : ℕ) (key key' : List ℕ) → IsKnownLength f n
+    → IsKnownLength f n'
+    → root_parameter_block f (settings n key [] [])
+    ≡ root_parameter_block f (settings n' key' [] [])
     → n ≡ n'
 unfolding parameter_block
-same_length blake2b n n' key key' h h' same =
+length-same_if_root_blocks_same blake2b n n' key key' h h' same =
     let at = λ (i : ℕ). ap (λ (l : List ℕ). get_or l i 0) same in
     omega (arith, at 12, at 13, at 14, at 15, h, h')
-same_length blake2s n n' key key' h h' same =
+length-same_if_root_blocks_same blake2s n n' key key' h h' same =
     let at = λ (i : ℕ). ap (λ (l : List ℕ). get_or l i 0) same in
     omega (arith, at 12, at 13, h, h')
 
-key_fits : (f : Family) (n : ℕ) → n ≤ key_bytes f → n ≤ block_bytes f
-key_fits blake2b n fits = omega arith
-key_fits blake2s n fits = omega arith
+key_length-at_most_block_bytes : (f : Family) (n : ℕ) → n ≤ key_bytes f → n ≤ block_bytes f
+key_length-at_most_block_bytes blake2b n fits = omega arith
+key_length-at_most_block_bytes blake2s n fits = omega arith
 
 -- Two lists of one length that are padded to the same list.
-same_padded : (n : ℕ) (x y : List ℕ) → length x ≡ length y → padded n x ≡ padded n y → x ≡ y
+padded-is_injective : (n : ℕ) (x y : List ℕ) → length x ≡ length y → padded n x ≡ padded n y → x ≡ y
 unfolding padded
-same_padded n x y long same =
+padded-is_injective n x y long same =
     sym (take_at x _ (length y) long) ∙ ap (take (length y)) same ∙ take_at y _ (length y) refl
 
 -- The law.
@@ -39,16 +41,16 @@ derivations_differ f (x ∷ key) (y ∷ key') context context' n n' h h' blocks 
     let b : ℕ = block_bytes f in
     let long : length (x ∷ key) ≡ length (y ∷ key') = ap (λ (l : List ℕ). get_or l 1 0) blocks in
     let whole : length (padded b (x ∷ key)) ≡ b =
-    length-padded b (x ∷ key) (key_fits f (length (x ∷ key)) h.fits) in
+    length-padded b (x ∷ key) (key_length-at_most_block_bytes f (length (x ∷ key)) h.fits) in
     let whole' : length (padded b (y ∷ key')) ≡ b =
-    length-padded b (y ∷ key') (key_fits f (length (y ∷ key')) h'.fits) in
+    length-padded b (y ∷ key') (key_length-at_most_block_bytes f (length (y ∷ key')) h'.fits) in
     let front : padded b (x ∷ key) ≡ padded b (y ∷ key') =
     sym (take_at (padded b (x ∷ key)) context b whole) ∙ ap (take b) same
     ∙ take_at (padded b (y ∷ key')) context' b whole' in
     let rest : context ≡ context' =
     sym (drop_at (padded b (x ∷ key)) context b whole) ∙ ap (drop b) same
     ∙ drop_at (padded b (y ∷ key')) context' b whole' in (
-      same_padded b (x ∷ key) (y ∷ key') long front,
+      padded-is_injective b (x ∷ key) (y ∷ key') long front,
       rest,
-      same_length f n n' (x ∷ key) (y ∷ key') h.known h'.known blocks,
+      length-same_if_root_blocks_same f n n' (x ∷ key) (y ∷ key') h.known h'.known blocks,
     )

@@ -17,10 +17,11 @@ take-add (suc d) r (x ∷ s) =
     ap (λ (n : ℕ). take n (x ∷ s)) next ∙ ap (λ (l : List ℕ). x ∷ l) (take-add d r s)
 
 -- r elements more of s are written after the first d.
-pub more_read : (s out new : List ℕ) (d r : ℕ) → take d out ≡ take d s → d + r ≤ length out
+pub prefix-extended_by_read : (s out new : List ℕ) (d r : ℕ) → take d out ≡ take d s
+    → d + r ≤ length out
     → length new ≡ length out → new ≡ take d out ++ (take r (drop d s) ++ drop r (drop d out))
     → take (d + r) new ≡ take (d + r) s
-more_read s out new d r before within same is =
+prefix-extended_by_read s out new d r before within same is =
     let some : List ℕ = take r (drop d s) in
     let rest : List ℕ = drop r (drop d out) in
     let front : length (take d out) ≡ d = length-take-le d out (omega arith) in
@@ -46,5 +47,6 @@ more_read s out new d r before within same is =
     drop_front (a ∷ x) y (suc n) e = drop_front x y n (omega arith)
 
 -- All of them.
-pub all_read : (s out : List ℕ) (d : ℕ) → take d out ≡ take d s → length out ≡ d → out ≡ take d s
-all_read s out d before long = sym (take_all d out (omega arith)) ∙ before
+pub whole_prefix-is_output : (s out : List ℕ) (d : ℕ) → take d out ≡ take d s → length out ≡ d
+    → out ≡ take d s
+whole_prefix-is_output s out d before long = sym (take_all d out (omega arith)) ∙ before

@@ -7,13 +7,13 @@ use Rattle.std.specs.Int.{to_le_bytes, w32, w64}
 use borrow.Rule.Slice.PartMut.{put_mid}
 use Rattle.blake2_simd.specs.Family.{Family, offset_bytes, output_bytes, reserved_bytes, salt_bytes}
 use Rattle.blake2_compress.specs.Hash.{padded, parameter_block}
-use Rattle.blake2_compress.proofs.Padding.{padded-whole}
-use Rattle.blake2_xof.specs.Xof.{block_parameters, block_size, offset_field, settings}
+use Rattle.blake2_compress.proofs.Padding.{padded-unchanged_at_length}
+use Rattle.blake2_xof.specs.Xof.{block_parameters, block_size, node_offset_field, settings}
 
 -- Two texts of n bytes, the second of which is written after the first over zeros.
-pub two_texts : (n : ℕ) (a b z : List ℕ) → length a ≡ n → length z ≡ n
+pub put_mid-splits_into_two_texts : (n : ℕ) (a b z : List ℕ) → length a ≡ n → length z ≡ n
     → (take n (put_mid n n (a ++ z) b) ≡ a) × (drop n (put_mid n n (a ++ z) b) ≡ b)
-two_texts n a b z la lz =
+put_mid-splits_into_two_texts n a b z la lz =
     let front : take n (a ++ z) ≡ a = take_at a z n la in
     let none : drop n (drop n (a ++ z)) ≡ [] =
     ap (drop n) (drop_at a z n la) ∙ drop_all n z (omega arith) in
@@ -22,23 +22,24 @@ two_texts n a b z la lz =
     (ap (take n) whole ∙ take_at a b n la, ap (drop n) whole ∙ drop_at a b n la)
 
 -- The fields of a block's parameter block before its salt.
-abbrev pub front : Family → ℕ → ℕ → List ℕ
-front f size offset =
+abbrev pub block_fields_before_salt : Family → ℕ → ℕ → List ℕ
+block_fields_before_salt f size offset =
     size ∷ 0 ∷ 0 ∷ 0 ∷ [] ++ to_le_bytes w32 (output_bytes f)
     ++ take (offset_bytes f) (to_le_bytes w64 offset) ++ 0 ∷ output_bytes f ∷ []
     ++ replicate (reserved_bytes f) 0
 
 -- The parameter block of block i.
-pub block_front : (f : Family) (n i : ℕ) (texts : List ℕ)
+pub joined_fields-are_parameter_block : (f : Family) (n i : ℕ) (texts : List ℕ)
     → length texts ≡ salt_bytes f + salt_bytes f
-    → front f (block_size f n i) (offset_field n i) ++ texts
+    → block_fields_before_salt f (block_size f n i) (node_offset_field n i) ++ texts
     ≡ parameter_block f (block_parameters f
     (settings n [] (take (salt_bytes f) texts) (drop (salt_bytes f) texts)) i)
 unfolding parameter_block
-block_front f n i texts long =
+joined_fields-are_parameter_block f n i texts long =
     let s : ℕ = salt_bytes f in
-    let head : List ℕ = front f (block_size f n i) (offset_field n i) in
-    let salt = padded-whole s (take s texts) (length-take-le s texts (omega arith)) in
-    let persona = padded-whole s (drop s texts) (omega (arith, length-drop s texts)) in
+    let head : List ℕ = block_fields_before_salt f (block_size f n i) (node_offset_field n i) in
+    let salt = padded-unchanged_at_length s (take s texts) (length-take-le s texts (omega arith)) in
+    let persona =
+    padded-unchanged_at_length s (drop s texts) (omega (arith, length-drop s texts)) in
     sym (append_assoc head (padded s (take s texts)) (padded s (drop s texts))
     ∙ ap (λ (l : List ℕ). head ++ l) ((λ k. salt k ++ persona k) ∙ take-append-drop s texts))

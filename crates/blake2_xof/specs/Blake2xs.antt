@@ -23,14 +23,14 @@ abbrev pub output_of : Reader → List ℕ
 output_of s = xof_output blake2s (settings_of s) s.root
 
 -- The number of bytes of the whole output.
-abbrev pub length_of : Reader → ℕ
-length_of s = output_length blake2s s.xof_length
+abbrev pub output_length_of : Reader → ℕ
+output_length_of s = output_length blake2s s.xof_length
 
 -- The reader's length is one of BLAKE2Xs's, and its position is within the output.
 pub record IsReadable (s : Reader) : Type 0 where
   pub some : 1 ≤ s.xof_length
   pub field : s.xof_length ≤ unknown_length blake2s
-  pub within : s.position ≤ length_of s
+  pub within : s.position ≤ output_length_of s
 
 -- The new reader is the old one after n bytes were read.
 pub record HasRead (old : Reader) (n : ℕ) (new : Reader) : Type 0 where

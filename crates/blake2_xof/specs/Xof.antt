@@ -8,7 +8,7 @@ use Rattle.blake2_simd.specs.Family.{Family, blake2b, blake2s, block_bytes, key_
 use Rattle.blake2_simd.specs.Family.{salt_bytes}
 use Rattle.blake2_compress.specs.Hash.{Input, Parameters, Tree, digest, input_data}
 use Rattle.blake2_compress.specs.Hash.{input_parameters, parameter_block, sequential}
-use Rattle.blake2_state.specs.ConstructorArguments.{given_key}
+use Rattle.blake2_state.specs.ConstructorArguments.{key_unless_empty}
 
 -- ---- the length of the output
 
@@ -25,8 +25,8 @@ abbrev pub output_length : Family → ℕ → ℕ
 output_length f n = if nat_eq n (unknown_length f) then 2 ^ 32 * output_bytes f else n
 
 -- The number of blocks in n bytes of output, the last of which may be shorter.
-abbrev pub output_blocks : Family → ℕ → ℕ
-output_blocks f n = (n + (output_bytes f - 1)) / output_bytes f
+abbrev pub output_block_count : Family → ℕ → ℕ
+output_block_count f n = (n + (output_bytes f - 1)) / output_bytes f
 
 -- The number of bytes of block i: those of the longest digest, or what is left of the output.
 abbrev pub block_size : Family → ℕ → ℕ → ℕ
@@ -62,21 +62,21 @@ pub record AdmitsXof (f : Family) (a : Settings) : Type 0 where
   pub persona : length a.persona ≤ salt_bytes f
 
 -- The field of the node offset, which has the XOF length in its upper half, for block i.
-abbrev pub offset_field : ℕ → ℕ → ℕ
-offset_field n i = i + n * 2 ^ 32
+abbrev pub node_offset_field : ℕ → ℕ → ℕ
+node_offset_field n i = i + n * 2 ^ 32
 
 -- The tree parameters of the root: those of a sequential hash, with the XOF length.
-abbrev pub root_place : ℕ → Tree
-root_place n = record sequential { node_offset = n * 2 ^ 32 }
+abbrev pub root_tree_parameters : ℕ → Tree
+root_tree_parameters n = record sequential { node_offset = n * 2 ^ 32 }
 
 -- The tree parameters of block i: fanout and depth are 0, and a leaf and an inner node have the
 -- length of the longest digest.
-abbrev pub block_place : Family → ℕ → ℕ → Tree
-block_place f n i = record {
+abbrev pub block_tree_parameters : Family → ℕ → ℕ → Tree
+block_tree_parameters f n i = record {
   fanout = 0;
   depth = 0;
   leaf_length = output_bytes f;
-  node_offset = offset_field n i;
+  node_offset = node_offset_field n i;
   node_depth = 0;
   inner_length = output_bytes f;
 }
@@ -88,15 +88,16 @@ abbrev pub root_hash_input : Settings → List ℕ → Input
 root_hash_input a message = record {
   salt = a.salt;
   persona = a.persona;
-  key = given_key a.key;
-  tree = root_place a.xof_length;
+  key = key_unless_empty a.key;
+  tree = root_tree_parameters a.xof_length;
   last_node = false;
   message = message;
 }
 
 -- The parameter block of the root hash.
-abbrev pub root_block : Family → Settings → List ℕ
-root_block f a = parameter_block f (input_parameters (output_bytes f) (root_hash_input a []))
+abbrev pub root_parameter_block : Family → Settings → List ℕ
+root_parameter_block f a = parameter_block f (input_parameters (output_bytes f)
+    (root_hash_input a []))
 
 -- The data of the root hash: the key block and the message (RFC 7693, 3.3).
 abbrev pub root_data : Family → Settings → List ℕ → List ℕ
@@ -112,7 +113,7 @@ block_input f a root i = record {
   salt = a.salt;
   persona = a.persona;
   key = None;
-  tree = block_place f a.xof_length i;
+  tree = block_tree_parameters f a.xof_length i;
   last_node = false;
   message = root;
 }
@@ -129,7 +130,7 @@ output_block f a root i = digest f (block_size f a.xof_length i) (block_input f 
 unfoldable pub xof_output : Family → Settings → List ℕ → List ℕ
 xof_output f a root =
     flat_map (output_block f a root)
-    (range_with_len 0 (output_blocks f (output_length f a.xof_length)))
+    (range_with_len 0 (output_block_count f (output_length f a.xof_length)))
 
 -- The output for a message.
 abbrev pub xof : Family → Settings → List ℕ → List ℕ
@@ -140,30 +141,31 @@ abbrev pub outputs : Family → Settings → Bool → List ℕ → List ℕ
 outputs f a last_node message = xof f a message
 
 -- The length of the output is known in advance.
-abbrev pub IsKnown : Family → ℕ → Type 0
-IsKnown f n = n < unknown_length f
+abbrev pub IsKnownLength : Family → ℕ → Type 0
+IsKnownLength f n = n < unknown_length f
 
 -- ---- keys derived from a key
 
 -- The key of n bytes that is derived from a key for a context: the output of the context under the
 -- key.
-abbrev pub derived : Family → List ℕ → List ℕ → ℕ → List ℕ
-derived f key context n = xof f (settings n key [] []) context
+abbrev pub derived_key : Family → List ℕ → List ℕ → ℕ → List ℕ
+derived_key f key context n = xof f (settings n key [] []) context
 
 -- A key of n bytes can be derived: there is a key within the limits of the family, the length is
 -- one of an output, and context and key block have fewer than 2^64 bytes.
-pub record CanDerive (f : Family) (key context : List ℕ) (n : ℕ) : Type 0 where
+pub record CanDeriveKey (f : Family) (key context : List ℕ) (n : ℕ) : Type 0 where
   pub some_key : 1 ≤ length key
   pub fits : length key ≤ key_bytes f
   pub some : 1 ≤ n
-  pub known : IsKnown f n
+  pub known : IsKnownLength f n
   pub counted : block_bytes f + length context < 2 ^ 64
 
 -- The law that two derivations hash the same only if they have the same key, context and length.
 -- The parameter block and the data determine what the root hash compresses.
 abbrev pub DerivationsDiffer : Family → Type 0
 DerivationsDiffer f = (key key' context context' : List ℕ) (n n' : ℕ)
-    → CanDerive f key context n → CanDerive f key' context' n'
-    → root_block f (settings n key [] []) ≡ root_block f (settings n' key' [] [])
+    → CanDeriveKey f key context n → CanDeriveKey f key' context' n'
+    → root_parameter_block f (settings n key [] [])
+    ≡ root_parameter_block f (settings n' key' [] [])
     → root_data f (settings n key [] []) context ≡ root_data f (settings n' key' [] []) context'
     → (key ≡ key') × (context ≡ context') × (n ≡ n')

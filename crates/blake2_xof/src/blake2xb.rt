@@ -4,12 +4,13 @@ ghost use Rattle.std.specs.Prelude.{◌≡◌, ◌+◌, ◌^◌, ◌<◌, ◌≤
 ghost use Rattle.std.specs.Prelude.{replicate, IfOk, IsErr, IsTrue};
 ghost use Rattle.blake2_simd.specs.Family.{blake2b};
 ghost use Rattle.blake2_compress.specs.Views.{tree_of};
-ghost use Rattle.blake2_digest.specs.States.{Fresh, StartedAgain, Updated};
-ghost use Rattle.blake2_state.specs.ConstructorArguments.{given_count};
+ghost use Rattle.blake2_digest.specs.States.{Fresh, ResetToStart, Updated};
+ghost use Rattle.blake2_state.specs.ConstructorArguments.{counted_key_bytes};
 ghost use Rattle.blake2_state.specs.States.{is_on};
-ghost use Rattle.blake2_xof.specs.Blake2xb.{HasSqueezed, IsAbsorbing, IsReady, length_of, meaning};
+ghost use Rattle.blake2_xof.specs.Blake2xb.{HasSqueezed, IsAbsorbing, IsReady, output_length_of};
+ghost use Rattle.blake2_xof.specs.Blake2xb.{meaning};
 ghost use Rattle.blake2_xof.specs.Blake2xb.{output_now, output_of, zeros};
-ghost use Rattle.blake2_xof.specs.Xof.{AdmitsXof, outputs, root_place, settings};
+ghost use Rattle.blake2_xof.specs.Xof.{AdmitsXof, outputs, root_tree_parameters, settings};
 
 use crate::reader::blake2xb::{Reader, UNKNOWN_LENGTH};
 use blake2_compress::params::Tree;
@@ -19,7 +20,7 @@ use blake2_state::{StateParameters, blake2b as root};
 // The tree parameters of the root hash.
 fn root_place(xof_length: u64) -> Tree
     requires { xof_length < 2 ^ 32 }
-    ensures { tree_of result ≡ root_place xof_length }
+    ensures { tree_of result ≡ root_tree_parameters xof_length }
 {
     Tree {
         fanout: 1,
@@ -108,7 +109,7 @@ impl State {
         ensures xof_length { IfOk result (λ s. s.reader.xof_length ≡ xof_length) }
         ensures fresh { IfOk result (λ s. Fresh meaning
             (outputs blake2b (settings xof_length key.now salt.now persona.now))
-            (given_count blake2b key.now) s) }
+            (counted_key_bytes blake2b key.now) s) }
     {
         if !Self::accepts(xof_length, key, salt, persona) {
             return Err(InvalidLength);
@@ -154,7 +155,7 @@ impl State {
         requires { IsReady self.old }
         ensures absorbing { IsAbsorbing self.new }
         ensures xof_length { self.new.reader.xof_length ≡ self.old.reader.xof_length }
-        ensures reset { StartedAgain meaning self.old self.new }
+        ensures reset { ResetToStart meaning self.old self.new }
         ensures root_hash { self.new.reader.root ≡ replicate 64 0 }
     {
         self.root.reset();
@@ -184,7 +185,8 @@ impl State {
     /// bytes left, as `left` of its reader returns. It absorbs nothing more before a reset.
     pub fn squeeze(&mut self, out: &mut [u8])
         requires ready { IsReady self.old }
-        requires room { self.old.reader.position + length out.old ≤ length_of self.old.reader }
+        requires room { self.old.reader.position + length out.old ≤ output_length_of
+            self.old.reader }
         ensures ready { IsReady self.new }
         ensures squeezed { HasSqueezed self.old (length out.old) self.new }
         ensures output { out.new

@@ -6,9 +6,10 @@ use Rattle.std.proofs.lemmas.Fmt.{decimal_nonempty, decimal_digit, decimal_step,
 use Rattle.std.proofs.lemmas.List.{drop-set, length-drop}
 
 -- While a digit is left, there is room for it.
-pub has_room : (n rest start : ℕ) (out : List ℕ) → n < 2 ^ 64 → rest < 2 ^ 64 → length out ≡ 20
+pub place_left-for_digit : (n rest start : ℕ) (out : List ℕ) → n < 2 ^ 64 → rest < 2 ^ 64
+    → length out ≡ 20
     → start ≤ 20 → decimal n ≡ decimal rest ++ drop start out → 1 ≤ start
-has_room n rest start out small fits size within digits =
+place_left-for_digit n rest start out small fits size within digits =
     omega (
       arith,
       length-decimal-le 20 n (omega arith) (omega arith) small,
@@ -20,10 +21,11 @@ has_room n rest start out small fits size within digits =
     )
 
 -- The last digit of the rest is written before the others.
-pub one_more : (n rest start : ℕ) (out : List ℕ) → rest < 2 ^ 64 → 10 ≤ rest → length out ≡ 20
+pub decimal-last_digit_written : (n rest start : ℕ) (out : List ℕ) → rest < 2 ^ 64 → 10 ≤ rest
+    → length out ≡ 20
     → 1 ≤ start → start ≤ 20 → decimal n ≡ decimal rest ++ drop start out
     → decimal n ≡ decimal (rest / 10) ++ drop (start - 1) (slice_set out (start - 1) (48 + rest % 10))
-one_more n rest start out fits many size some within digits =
+decimal-last_digit_written n rest start out fits many size some within digits =
     let next : start - 1 + 1 ≡ start = omega arith in
     digits
     ∙ ap (λ ds. ds ++ drop start out) (decimal_step rest many fits)
@@ -33,10 +35,10 @@ one_more n rest start out fits many size some within digits =
     ∙ ap (λ k. (48 + rest % 10) ∷ drop k out) next))
 
 -- The first digit is written before the others.
-pub all_written : (n rest start : ℕ) (out : List ℕ) → rest < 10 → length out ≡ 20
+pub decimal-first_digit_written : (n rest start : ℕ) (out : List ℕ) → rest < 10 → length out ≡ 20
     → 1 ≤ start → start ≤ 20 → decimal n ≡ decimal rest ++ drop start out
     → drop (start - 1) (slice_set out (start - 1) (48 + rest)) ≡ decimal n
-all_written n rest start out few size some within digits =
+decimal-first_digit_written n rest start out few size some within digits =
     let next : start - 1 + 1 ≡ start = omega arith in
     drop-set out (start - 1) (48 + rest) (omega (arith, size))
     ∙ ap (λ k. (48 + rest) ∷ drop k out) next

@@ -4,14 +4,14 @@ use Rattle.std.specs.Prelude.{position}
 use Rattle.std.specs.List.{slice_split, before_first, after_first}
 
 -- The line in the part after the last newline. An empty part is not a line.
-abbrev pub last_line : List ℕ → List (List ℕ)
-last_line [] = []
-last_line (b ∷ part) = (b ∷ part) ∷ []
+abbrev pub last_line_if_any : List ℕ → List (List ℕ)
+last_line_if_any [] = []
+last_line_if_any (b ∷ part) = (b ∷ part) ∷ []
 
 -- The lines in the parts between newlines.
 abbrev pub lines_of_parts : List (List ℕ) → List (List ℕ)
 lines_of_parts [] = []
-lines_of_parts (part ∷ []) = last_line part
+lines_of_parts (part ∷ []) = last_line_if_any part
 lines_of_parts (part ∷ next ∷ parts) = part ∷ lines_of_parts (next ∷ parts)
 
 -- The lines of a text, without their newlines, which the last line may lack.

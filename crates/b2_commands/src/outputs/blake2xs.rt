@@ -8,15 +8,16 @@ ghost use Rattle.std.specs.Result.{IsErrOf};
 ghost use Rattle.blake2.specs.Family.{blake2s};
 ghost use Rattle.blake2.specs.MacArguments.{key_count};
 ghost use Rattle.blake2_digest.specs.States.{Fresh, Updated};
-ghost use Rattle.blake2_xof.specs.Blake2xs.{HasSqueezed, IsAbsorbing, IsReady, length_of, meaning};
+ghost use Rattle.blake2_xof.specs.Blake2xs.{HasSqueezed, IsAbsorbing, IsReady, output_length_of};
+ghost use Rattle.blake2_xof.specs.Blake2xs.{meaning};
 ghost use Rattle.blake2_xof.specs.Blake2xs.{output_now};
 ghost use Rattle.blake2_xof.specs.Xof.{unknown_length};
 ghost use Rattle.b2_commands.specs.declared.fault.Fault.TheVariants.{ReadFailed, TooLong};
 ghost use Rattle.b2_commands.specs.declared.fault.Fault.TheVariants.{WriteFailed};
 ghost use Rattle.b2_commands.specs.PrintedLines.{output_text, piece_text};
-ghost use Rattle.b2_commands.specs.TaskEnds.{EndsBy};
-ghost use Rattle.b2_commands.specs.ReadOptions.{given_of};
-ghost use Rattle.b2_commands.specs.Tasks.{IsRefusedBy, output_with};
+ghost use Rattle.b2_commands.specs.TaskEnds.{EndsByPrinting};
+ghost use Rattle.b2_commands.specs.ReadOptions.{given_options};
+ghost use Rattle.b2_commands.specs.Tasks.{IsRefusedByFamily, output_with};
 
 use crate::arguments::Options;
 use crate::fault::Fault;
@@ -42,13 +43,14 @@ pub(crate) fn print_output<S: Source, K: Sink>(
     requires known { size < unknown_length blake2s }
     requires source { S.failed source.old ≡ false }
     requires sink { K.failed sink.old ≡ false }
-    ensures length { IsErrOf result Fault.WrongLength ↔ IsRefusedBy blake2s (given_of options.now) }
+    ensures length { IsErrOf result Fault.WrongLength
+        ↔ IsRefusedByFamily blake2s (given_options options.now) }
     ensures read { IsErrOf result Fault.ReadFailed ↔ IsTrue (S.failed source.new) }
     ensures write { IsErrOf result Fault.WriteFailed ↔ IsTrue (K.failed sink.new) }
     ensures memory { result ≢ Err Fault.NoMemory }
-    ensures ends { EndsBy
-        (λ message. output_text raw (output_with blake2s size (given_of options.now) message))
-        (key_count blake2s (given_of options.now).key) result (S.left source.old)
+    ensures ends { EndsByPrinting
+        (λ message. output_text raw (output_with blake2s size (given_options options.now) message))
+        (key_count blake2s (given_options options.now).key) result (S.left source.old)
         (K.held sink.old) (K.held sink.new) }
 {
     let state = init_output(size, options)?;
@@ -63,13 +65,13 @@ pub(crate) fn print_output<S: Source, K: Sink>(
 fn init_output(size: u64, options: &Options) -> Result<State, Fault>
     requires some { 1 ≤ size }
     requires known { size < unknown_length blake2s }
-    ensures length { IsErr result ↔ IsRefusedBy blake2s (given_of options.now) }
+    ensures length { IsErr result ↔ IsRefusedByFamily blake2s (given_options options.now) }
     ensures fault { IsOkUnless result Fault.WrongLength }
     ensures absorbing { IfOk result (λ s. IsAbsorbing s) }
     ensures xof_length { IfOk result (λ s. s.reader.xof_length ≡ size) }
     ensures fresh { IfOk result (λ s. Fresh meaning
-        (λ _ message. output_with blake2s size (given_of options.now) message)
-        (key_count blake2s (given_of options.now).key) s) }
+        (λ _ message. output_with blake2s size (given_options options.now) message)
+        (key_count blake2s (given_options options.now).key) s) }
 {
     if options.has_empty_key() {
         return Err(Fault::WrongLength);
@@ -131,7 +133,7 @@ pub(crate) fn print_next<K: Sink>(
     sink: &mut K,
 ) -> Result<(), Fault>
     requires ready { IsReady state.old }
-    requires room { state.old.reader.position + count ≤ length_of state.old.reader }
+    requires room { state.old.reader.position + count ≤ output_length_of state.old.reader }
     requires sink { K.failed sink.old ≡ false }
     ensures write { IsErrOf result Fault.WriteFailed ↔ IsTrue (K.failed sink.new) }
     ensures fault { IsOkUnless result Fault.WriteFailed }
@@ -162,7 +164,7 @@ fn print_piece<K: Sink>(
 ) -> Result<(), Fault>
     requires ready { IsReady state.old }
     requires piece { size ≤ PIECE_BYTES }
-    requires room { state.old.reader.position + size ≤ length_of state.old.reader }
+    requires room { state.old.reader.position + size ≤ output_length_of state.old.reader }
     requires sink { K.failed sink.old ≡ false }
     ensures ready { IsReady state.new }
     ensures squeezed { HasSqueezed state.old size state.new }

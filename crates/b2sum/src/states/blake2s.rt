@@ -36,14 +36,14 @@ impl HashState for State {
     ghost use Rattle.blake2_simd.specs.Family.{blake2s};
     ghost use Rattle.blake2_compress.specs.Hash.{sequential};
     ghost use Rattle.blake2_state.specs.ConstructorArguments.{AdmitsState, digest_given};
-    ghost use Rattle.blake2_state.specs.ConstructorArguments.{given_count};
+    ghost use Rattle.blake2_state.specs.ConstructorArguments.{counted_key_bytes};
     ghost use Rattle.blake2_state.specs.ConstructorArguments.{parameters_given};
 
     ghost accepts = { λ given. AdmitsState blake2s (parameters_given given sequential) };
 
     ghost digest = { λ given. digest_given blake2s given sequential false };
 
-    ghost key_count = { λ given. given_count blake2s given.key.now };
+    ghost key_count = { λ given. counted_key_bytes blake2s given.key.now };
 
     fn zeros() -> Self {
         State::zeros()

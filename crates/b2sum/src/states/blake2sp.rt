@@ -33,11 +33,11 @@ impl HashState for State {
     ghost use Rattle.blake2_simd.specs.Family.{blake2s};
     ghost use Rattle.blake2_parallel.specs.Parallel.{AdmitsParallel, parallel_key_count};
     ghost use Rattle.blake2_parallel.specs.Parallel.{parallel_digest};
-    ghost use Rattle.b2sum.specs.FileDigests.{settings_given};
+    ghost use Rattle.b2sum.specs.FileDigests.{settings_of_parameters};
 
-    ghost accepts = { λ given. AdmitsParallel blake2s (settings_given given) };
+    ghost accepts = { λ given. AdmitsParallel blake2s (settings_of_parameters given) };
 
-    ghost digest = { λ given. parallel_digest blake2s (settings_given given) };
+    ghost digest = { λ given. parallel_digest blake2s (settings_of_parameters given) };
 
     ghost key_count = { λ given. parallel_key_count blake2s given.key.now };
 

@@ -89,12 +89,12 @@ impl<const N: usize> FixedOutput<N> for Blake2b<N> {
 
 impl<const N: usize> LastNode for Blake2b<N> {
     ghost use Rattle.blake2.specs.Hashers.{blake2b_meaning};
-    ghost use Rattle.blake2_digest.specs.States.{NodeSet};
+    ghost use Rattle.blake2_digest.specs.States.{LastNodeFlagSet};
 
-    ghost is_node_set = { NodeSet (blake2b_meaning N) };
+    ghost is_node_set = { LastNodeFlagSet (blake2b_meaning N) };
 
     fn set_last_node(&mut self, on: bool)
-        ensures { NodeSet (blake2b_meaning N) self.old on self.new }
+        ensures { LastNodeFlagSet (blake2b_meaning N) self.old on self.new }
     {
         self.context.set_last_node(on);
     }

@@ -90,12 +90,12 @@ impl<const N: usize> FixedOutput<N> for Blake2s<N> {
 
 impl<const N: usize> LastNode for Blake2s<N> {
     ghost use Rattle.blake2.specs.Hashers.{blake2s_meaning};
-    ghost use Rattle.blake2_digest.specs.States.{NodeSet};
+    ghost use Rattle.blake2_digest.specs.States.{LastNodeFlagSet};
 
-    ghost is_node_set = { NodeSet (blake2s_meaning N) };
+    ghost is_node_set = { LastNodeFlagSet (blake2s_meaning N) };
 
     fn set_last_node(&mut self, on: bool)
-        ensures { NodeSet (blake2s_meaning N) self.old on self.new }
+        ensures { LastNodeFlagSet (blake2s_meaning N) self.old on self.new }
     {
         self.context.set_last_node(on);
     }

@@ -6,7 +6,7 @@ ghost use Rattle.std.proofs.Common.{arith};
 ghost use Rattle.blake2_simd.specs.Family.{blake2b};
 ghost use Rattle.blake2_compress.specs.Hash.{sequential};
 ghost use Rattle.blake2_compress.specs.Views.{key_of};
-ghost use Rattle.blake2.specs.MacArguments.{key_count, IsRefused};
+ghost use Rattle.blake2.specs.MacArguments.{key_count, HasRefusedLength};
 ghost use Rattle.blake2.specs.States.{node_digest_of};
 
 use crate::contexts::blake2b::Blake2bContext;
@@ -38,14 +38,15 @@ impl<const N: usize> Blake2bMac<N> {
     /// salt and a persona of up to 16 bytes each. `None` stands for no key, and the MAC is then
     /// the unkeyed hash. The error is `InvalidLength`, exactly for a key of no bytes or of more
     /// than 64, and for a salt or a persona of more than 16.
-    #[tactic(auto, unfolding(crate::specs::MacArguments::IsRefused))]
+    #[tactic(auto, unfolding(crate::specs::MacArguments::HasRefusedLength))]
     pub fn new_with_salt_and_personal(
         key: Option<&[u8]>,
         salt: &[u8],
         persona: &[u8],
     ) -> Result<Self, InvalidLength>
         requires { N ≤ 64 }
-        ensures refused { IsErr result ↔ IsRefused blake2b (key_of key.entry) salt.now persona.now }
+        ensures refused { IsErr result
+            ↔ HasRefusedLength blake2b (key_of key.entry) salt.now persona.now }
         ensures made { IfOk result (λ mac. Fresh (blake2b_mac_meaning N)
             (node_digest_of blake2b N salt.now persona.now (key_of key.entry) sequential)
             (key_count blake2b (key_of key.entry)) mac) }
@@ -126,7 +127,7 @@ impl<const N: usize> KeyInit<64> for Blake2bMac<N> {
         Self::under_key(key, &[], &[])
     }
 
-    #[tactic(auto, unfolding(crate::specs::MacArguments::IsRefused))]
+    #[tactic(auto, unfolding(crate::specs::MacArguments::HasRefusedLength))]
     fn new_from_slice(key: &[u8]) -> Result<Self, InvalidLength>
         requires { N ≤ 64 }
         ensures refused { IsErr result ↔ ((length key.now ≡ 0) ⊎ (64 < length key.now)) }

@@ -7,7 +7,7 @@ ghost use Rattle.std.proofs.Common.{arith};
 ghost use Rattle.blake2_simd.specs.Family.{blake2s};
 ghost use Rattle.blake2_compress.specs.Hash.{sequential};
 ghost use Rattle.blake2_compress.specs.Views.{key_of};
-ghost use Rattle.blake2.specs.MacArguments.{key_count, IsRefused};
+ghost use Rattle.blake2.specs.MacArguments.{key_count, HasRefusedLength};
 ghost use Rattle.blake2.specs.States.{node_digest_of};
 
 use crate::contexts::blake2s::Blake2sContext;
@@ -39,14 +39,15 @@ impl<const N: usize> Blake2sMac<N> {
     /// salt and a persona of up to 8 bytes each. `None` stands for no key, and the MAC is then
     /// the unkeyed hash. The error is `InvalidLength`, exactly for a key of no bytes or of more
     /// than 32, and for a salt or a persona of more than 8.
-    #[tactic(auto, unfolding(crate::specs::MacArguments::IsRefused))]
+    #[tactic(auto, unfolding(crate::specs::MacArguments::HasRefusedLength))]
     pub fn new_with_salt_and_personal(
         key: Option<&[u8]>,
         salt: &[u8],
         persona: &[u8],
     ) -> Result<Self, InvalidLength>
         requires { N ≤ 32 }
-        ensures refused { IsErr result ↔ IsRefused blake2s (key_of key.entry) salt.now persona.now }
+        ensures refused { IsErr result
+            ↔ HasRefusedLength blake2s (key_of key.entry) salt.now persona.now }
         ensures made { IfOk result (λ mac. Fresh (blake2s_mac_meaning N)
             (node_digest_of blake2s N salt.now persona.now (key_of key.entry) sequential)
             (key_count blake2s (key_of key.entry)) mac) }
@@ -127,7 +128,7 @@ impl<const N: usize> KeyInit<32> for Blake2sMac<N> {
         Self::under_key(key, &[], &[])
     }
 
-    #[tactic(auto, unfolding(crate::specs::MacArguments::IsRefused))]
+    #[tactic(auto, unfolding(crate::specs::MacArguments::HasRefusedLength))]
     fn new_from_slice(key: &[u8]) -> Result<Self, InvalidLength>
         requires { N ≤ 32 }
         ensures refused { IsErr result ↔ ((length key.now ≡ 0) ⊎ (32 < length key.now)) }

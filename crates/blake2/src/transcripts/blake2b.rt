@@ -4,9 +4,10 @@ ghost use Rattle.std.specs.Prelude.{◌≡◌, ◌≤◌, ◌↔◌, map, IsTrue
 ghost use Rattle.blake2_simd.specs.Family.{blake2b};
 ghost use Rattle.blake2_compress.specs.Hash.{steps};
 ghost use Rattle.blake2_compress.specs.Inputs.{Accepts};
-ghost use Rattle.blake2_transcript.specs.Transcript.{entry, IsOfSomeInput, IsTranscript, ReadsOnly};
+ghost use Rattle.blake2_transcript.specs.Transcript.{entry, DescribesSomeInput, IsTranscript};
+ghost use Rattle.blake2_transcript.specs.Transcript.{DescribesOnlyThisInput};
 ghost use Rattle.blake2_compress.specs.Views.{input_of};
-ghost use Rattle.blake2_transcript.specs.StepViews.{entries_of, reading_of, step_of};
+ghost use Rattle.blake2_transcript.specs.StepViews.{entries_of, input_of_reading, step_of};
 ghost use Rattle.blake2_transcript.specs.Witness.{Collide, IsWitness};
 
 use super::{Input, Reading, Step, Transcript};
@@ -56,12 +57,12 @@ impl Blake2bVarCore {
         transcript: &Transcript<u64, 128>,
     ) -> Result<Option<Reading<16>>, AllocError>
         ensures some { IfOk result (λ r. IsSome r
-            ↔ IsOfSomeInput blake2b transcript.now.words (entries_of transcript.now)) }
+            ↔ DescribesSomeInput blake2b transcript.now.words (entries_of transcript.now)) }
         ensures reading { IfOk result (λ r. IfSome r (λ x.
-            ReadsOnly blake2b transcript.now.words (entries_of transcript.now)
-            x.output_size (reading_of x))) }
+            DescribesOnlyThisInput blake2b transcript.now.words (entries_of transcript.now)
+            x.output_size (input_of_reading x))) }
         ensures memory { IfErr result (λ _.
-            IsOfSomeInput blake2b transcript.now.words (entries_of transcript.now)) }
+            DescribesSomeInput blake2b transcript.now.words (entries_of transcript.now)) }
     {
         run::read_transcript(alloc, transcript)
     }

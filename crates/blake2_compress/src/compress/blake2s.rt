@@ -34,7 +34,7 @@ pub(crate) fn block_words(block: &[u8; 64]) -> [u32; 16]
 //
 // Each flag chooses between two constant rows, which is faster than to choose its word and then
 // to make the row of both flags.
-#[tactic(auto, using(crate::proofs::FlagRows::xor_nothing), unfolding(crate::specs::Hash::before_rounds, crate::specs::Hash::xor_words))]
+#[tactic(auto, using(crate::proofs::FlagRows::bit_xor_zero_right), unfolding(crate::specs::Hash::before_rounds, crate::specs::Hash::xor_words))]
 #[inline(always)]
 fn work_vector(h: [u32x4; 2], counter: u64, flags: Flags) -> [u32x4; 4]
     ensures { work_words result

@@ -5,7 +5,7 @@ ghost use Rattle.blake2_simd.specs.Family.{blake2b};
 ghost use Rattle.blake2_simd.specs.Round.{round};
 ghost use Rattle.blake2_simd.specs.Rows.{work_words};
 ghost use Rattle.blake2_compress.specs.Hash;
-ghost use Rattle.blake2_compress.specs.DigestLaws.{ZerosLeaveDigests};
+ghost use Rattle.blake2_compress.specs.DigestLaws.{TrailingZerosKeepDigest};
 
 use blake2_simd::padded;
 use blake2_simd::rows::u64x4;
@@ -61,7 +61,7 @@ pub fn round_keeps_apart(a: &mut [u64x4; 4], b: &mut [u64x4; 4], m: &[u64; 16], 
 pub fn padded_text(text: &[u8]) -> [u8; 16]
     requires { length text.now ≤ 16 }
     ensures padding { result ≡ Hash.padded 16 text.now }
-    ensures law { ZerosLeaveDigests blake2b }
+    ensures law { TrailingZerosKeepDigest blake2b }
 {
     padded(text)
 }

@@ -6,7 +6,7 @@ ghost use Rattle.blake2_simd.specs.Family.{blake2s};
 ghost use Rattle.blake2_simd.specs.Round.{round};
 ghost use Rattle.blake2_simd.specs.Rows.{work_words};
 ghost use Rattle.blake2_compress.specs.Hash;
-ghost use Rattle.blake2_compress.specs.DigestLaws.{ZerosLeaveDigests};
+ghost use Rattle.blake2_compress.specs.DigestLaws.{TrailingZerosKeepDigest};
 
 use blake2_simd::padded;
 use blake2_simd::rows::u32x4;
@@ -62,7 +62,7 @@ pub fn round_keeps_apart(a: &mut [u32x4; 4], b: &mut [u32x4; 4], m: &[u32; 16], 
 pub fn padded_text(text: &[u8]) -> [u8; 8]
     requires { length text.now ≤ 8 }
     ensures padding { result ≡ Hash.padded 8 text.now }
-    ensures law { ZerosLeaveDigests blake2s }
+    ensures law { TrailingZerosKeepDigest blake2s }
 {
     padded(text)
 }

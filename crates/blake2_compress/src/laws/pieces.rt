@@ -3,7 +3,7 @@
 
 ghost use Rattle.std.specs.Prelude.{◌≡◌, ◌↔◌, ◌<◌, length, IsTrue, MatchOption};
 ghost use Rattle.blake2_compress.specs.MessagePieces.{piece_count, piece, IsFirstDifference};
-ghost use Rattle.blake2_compress.specs.MessagePieces.{PiecesDetermine, NoPairDiffers};
+ghost use Rattle.blake2_compress.specs.MessagePieces.{PiecesDetermineMessage, EqualIfNoPairDiffers};
 
 /// Returns how many pieces of `size` bytes, at least 1, a message has. It has at least one, and
 /// the last may be shorter.
@@ -48,8 +48,8 @@ pub fn same_pieces(size: usize, a: &[u8], b: &[u8]) -> bool
     requires size { 0 < size }
     requires equally_many { piece_count size (length a.now) ≡ piece_count size (length b.now) }
     ensures same { IsTrue result ↔ (a.now ≡ b.now) }
-    ensures pieces_determine { PiecesDetermine }
-    ensures no_pair_differs { NoPairDiffers }
+    ensures pieces_determine { PiecesDetermineMessage }
+    ensures no_pair_differs { EqualIfNoPairDiffers }
 {
     first_difference(size, a, b).is_none()
 }

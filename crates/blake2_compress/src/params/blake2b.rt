@@ -39,7 +39,7 @@ pub fn fits(parameters: &Parameters<'_>) -> bool
 /// Returns what a parameter block names, whatever is in its reserved bytes (RFC 7693, 2.5; the
 /// BLAKE2 document, 2.8).
 pub fn parameters_in(block: &[u8; 64]) -> Parameters<'_>
-    ensures { given_parameters result ≡ ParameterBlock.parameters_in blake2b block.now }
+    ensures { given_parameters result ≡ ParameterBlock.parameters_in_block blake2b block.now }
 {
     let (salt, persona) = block[32..].split_at(16);
     Parameters {

@@ -6,11 +6,13 @@ ghost use Rattle.blake2.specs.Family.{blake2b};
 ghost use Rattle.blake2.specs.States as Held;
 ghost use Rattle.blake2_compress.specs.Views.{input_of};
 ghost use Rattle.blake2_compress.specs.Hash.{parameters_of, sequential};
-ghost use Rattle.blake2_state.specs.ConstructorArguments.{given_key, given_count, digest_given};
+ghost use Rattle.blake2_state.specs.ConstructorArguments.{key_unless_empty, counted_key_bytes};
+ghost use Rattle.blake2_state.specs.ConstructorArguments.{digest_given};
 ghost use Rattle.blake2_state.specs.ConstructorArguments.{AdmitsState};
 ghost use Rattle.blake2_state.specs.ConstructorArguments.{parameters_given};
-ghost use Rattle.blake2_ffi.specs.SeveralMessages.{AreCounted, digests_of, digests_given};
-ghost use Rattle.blake2_ffi.specs.Status.{Returns};
+ghost use Rattle.blake2_ffi.specs.SeveralMessages.{HaveCountableLengths, digests_of_messages};
+ghost use Rattle.blake2_ffi.specs.SeveralMessages.{digests_by_state_parameters};
+ghost use Rattle.blake2_ffi.specs.Status.{IsStatusOf};
 
 use crate::many::{are_counted, is_room_for, write_digests};
 use blake2::Tree;
@@ -29,7 +31,7 @@ const WRITE_BYTES: usize = 9216;
 // The input of a message under these.
 fn input<'a>(key: &'a [u8], salt: &'a [u8], persona: &'a [u8], message: &'a [u8]) -> Input<'a>
     ensures { input_of result
-        ≡ Held.input salt.now persona.now (given_key key.now) message.now }
+        ≡ Held.input salt.now persona.now (key_unless_empty key.now) message.now }
 {
     Input {
         salt,
@@ -43,7 +45,7 @@ fn input<'a>(key: &'a [u8], salt: &'a [u8], persona: &'a [u8], message: &'a [u8]
 
 // The number of bytes that a key counts for.
 fn key_count(key: &[u8]) -> u64
-    ensures { result ≡ given_count blake2b key.now }
+    ensures { result ≡ counted_key_bytes blake2b key.now }
 {
     if key.is_empty() { 0 } else { 128 }
 }
@@ -51,7 +53,7 @@ fn key_count(key: &[u8]) -> u64
 // Writes the digest of one message at the beginning of `out`.
 fn write_one(out: &mut [u8], given: &StateParameters<'_>, message: &[u8])
     requires taken { AdmitsState blake2b (parameters_given given.now sequential) }
-    requires counted { given_count blake2b given.now.key.now + length message.now < 2 ^ 64 }
+    requires counted { counted_key_bytes blake2b given.now.key.now + length message.now < 2 ^ 64 }
     requires room { given.now.output_size ≤ length out.old }
     ensures { out.new
         ≡ digest_given blake2b given.now sequential false message.now
@@ -74,7 +76,7 @@ fn write_eight(out: &mut [u8], given: &StateParameters<'_>, messages: &[Text<'_>
     requires enough { 8 ≤ length messages.now }
     requires room { 8 * given.now.output_size ≤ length out.old }
     ensures digests { IsTrue result
-        → out.new ≡ digests_given blake2b given.now (take 8 messages.now)
+        → out.new ≡ digests_by_state_parameters blake2b given.now (take 8 messages.now)
         ++ drop (8 * given.now.output_size) out.old }
     ensures nothing { result ≡ false → out.new ≡ out.old }
 {
@@ -105,12 +107,13 @@ fn write_eight(out: &mut [u8], given: &StateParameters<'_>, messages: &[Text<'_>
 // parallel, otherwise one, and returns how many.
 fn write_next_group(out: &mut [u8], given: &StateParameters<'_>, messages: &[Text<'_>]) -> usize
     requires taken { AdmitsState blake2b (parameters_given given.now sequential) }
-    requires counted { AreCounted blake2b given.now.key.now messages.now }
+    requires counted { HaveCountableLengths blake2b given.now.key.now messages.now }
     requires some { 1 ≤ length messages.now }
     requires room { length messages.now * given.now.output_size ≤ length out.old }
     ensures some { 1 ≤ result }
     ensures most { result ≤ length messages.now }
-    ensures digests { out.new ≡ digests_given blake2b given.now (take result messages.now)
+    ensures digests { out.new ≡ digests_by_state_parameters blake2b given.now
+        (take result messages.now)
         ++ drop (result * given.now.output_size) out.old }
 {
     if best_lane_count() >= 4 && messages.len() >= 4 {
@@ -138,12 +141,13 @@ fn write_next_group(out: &mut [u8], given: &StateParameters<'_>, messages: &[Tex
 // The same with 8 if these are hashed in parallel.
 fn write_next(out: &mut [u8], given: &StateParameters<'_>, messages: &[Text<'_>]) -> usize
     requires taken { AdmitsState blake2b (parameters_given given.now sequential) }
-    requires counted { AreCounted blake2b given.now.key.now messages.now }
+    requires counted { HaveCountableLengths blake2b given.now.key.now messages.now }
     requires some { 1 ≤ length messages.now }
     requires room { length messages.now * given.now.output_size ≤ length out.old }
     ensures some { 1 ≤ result }
     ensures most { result ≤ length messages.now }
-    ensures digests { out.new ≡ digests_given blake2b given.now (take result messages.now)
+    ensures digests { out.new ≡ digests_by_state_parameters blake2b given.now
+        (take result messages.now)
         ++ drop (result * given.now.output_size) out.old }
 {
     if best_lane_count() >= 8 && messages.len() >= 8 && write_eight(out, given, messages) {
@@ -166,12 +170,12 @@ pub extern "C" fn vulfsjor_ffi_blake2b_many(
     salt: &[u8],
     persona: &[u8],
 ) -> i32
-    ensures status { Returns result
+    ensures status { IsStatusOf result
         (AdmitsState blake2b (parameters_of output_size (length key.now) salt.now persona.now)
         × (length out.old ≡ length messages.now * output_size)
-        × AreCounted blake2b key.now messages.now) }
+        × HaveCountableLengths blake2b key.now messages.now) }
     ensures digests { result ≡ pos 0 → out.new
-        ≡ digests_of blake2b output_size key.now salt.now persona.now messages.now }
+        ≡ digests_of_messages blake2b output_size key.now salt.now persona.now messages.now }
     ensures nothing { result ≡ negsuc 0 → out.new ≡ out.old }
 {
     let given = StateParameters {
@@ -198,9 +202,9 @@ pub extern "C" fn vulfsjor_ffi_blake2b_many(
 #[inline(never)]
 fn write_all(out: &mut [u8], given: &StateParameters<'_>, messages: &[Text<'_>])
     requires taken { AdmitsState blake2b (parameters_given given.now sequential) }
-    requires counted { AreCounted blake2b given.now.key.now messages.now }
+    requires counted { HaveCountableLengths blake2b given.now.key.now messages.now }
     requires room { length out.old ≡ length messages.now * given.now.output_size }
-    ensures { out.new ≡ digests_given blake2b given.now messages.now }
+    ensures { out.new ≡ digests_by_state_parameters blake2b given.now messages.now }
 {
     let mut done = 0;
     while done < messages.len() {

@@ -6,11 +6,13 @@ ghost use Rattle.blake2.specs.Family.{blake2s};
 ghost use Rattle.blake2.specs.States as Held;
 ghost use Rattle.blake2_compress.specs.Views.{input_of};
 ghost use Rattle.blake2_compress.specs.Hash.{parameters_of, sequential};
-ghost use Rattle.blake2_state.specs.ConstructorArguments.{given_key, given_count, digest_given};
+ghost use Rattle.blake2_state.specs.ConstructorArguments.{key_unless_empty, counted_key_bytes};
+ghost use Rattle.blake2_state.specs.ConstructorArguments.{digest_given};
 ghost use Rattle.blake2_state.specs.ConstructorArguments.{AdmitsState};
 ghost use Rattle.blake2_state.specs.ConstructorArguments.{parameters_given};
-ghost use Rattle.blake2_ffi.specs.SeveralMessages.{AreCounted, digests_of, digests_given};
-ghost use Rattle.blake2_ffi.specs.Status.{Returns};
+ghost use Rattle.blake2_ffi.specs.SeveralMessages.{HaveCountableLengths, digests_of_messages};
+ghost use Rattle.blake2_ffi.specs.SeveralMessages.{digests_by_state_parameters};
+ghost use Rattle.blake2_ffi.specs.Status.{IsStatusOf};
 
 use crate::many::{are_counted, is_room_for, write_digests};
 use blake2::Tree;
@@ -28,7 +30,7 @@ const WRITE_BYTES: usize = 5632;
 // The input of a message under these.
 fn input<'a>(key: &'a [u8], salt: &'a [u8], persona: &'a [u8], message: &'a [u8]) -> Input<'a>
     ensures { input_of result
-        ≡ Held.input salt.now persona.now (given_key key.now) message.now }
+        ≡ Held.input salt.now persona.now (key_unless_empty key.now) message.now }
 {
     Input {
         salt,
@@ -42,7 +44,7 @@ fn input<'a>(key: &'a [u8], salt: &'a [u8], persona: &'a [u8], message: &'a [u8]
 
 // The number of bytes that a key counts for.
 fn key_count(key: &[u8]) -> u64
-    ensures { result ≡ given_count blake2s key.now }
+    ensures { result ≡ counted_key_bytes blake2s key.now }
 {
     if key.is_empty() { 0 } else { 64 }
 }
@@ -50,7 +52,7 @@ fn key_count(key: &[u8]) -> u64
 // Writes the digest of one message at the beginning of `out`.
 fn write_one(out: &mut [u8], given: &StateParameters<'_>, message: &[u8])
     requires taken { AdmitsState blake2s (parameters_given given.now sequential) }
-    requires counted { given_count blake2s given.now.key.now + length message.now < 2 ^ 64 }
+    requires counted { counted_key_bytes blake2s given.now.key.now + length message.now < 2 ^ 64 }
     requires room { given.now.output_size ≤ length out.old }
     ensures { out.new
         ≡ digest_given blake2s given.now sequential false message.now
@@ -70,12 +72,13 @@ fn write_one(out: &mut [u8], given: &StateParameters<'_>, message: &[u8])
 // parallel, otherwise one, and returns how many.
 fn write_next(out: &mut [u8], given: &StateParameters<'_>, messages: &[Text<'_>]) -> usize
     requires taken { AdmitsState blake2s (parameters_given given.now sequential) }
-    requires counted { AreCounted blake2s given.now.key.now messages.now }
+    requires counted { HaveCountableLengths blake2s given.now.key.now messages.now }
     requires some { 1 ≤ length messages.now }
     requires room { length messages.now * given.now.output_size ≤ length out.old }
     ensures some { 1 ≤ result }
     ensures most { result ≤ length messages.now }
-    ensures digests { out.new ≡ digests_given blake2s given.now (take result messages.now)
+    ensures digests { out.new ≡ digests_by_state_parameters blake2s given.now
+        (take result messages.now)
         ++ drop (result * given.now.output_size) out.old }
 {
     if best_lane_count() >= 8 && messages.len() >= 8 {
@@ -118,12 +121,12 @@ pub extern "C" fn vulfsjor_ffi_blake2s_many(
     salt: &[u8],
     persona: &[u8],
 ) -> i32
-    ensures status { Returns result
+    ensures status { IsStatusOf result
         (AdmitsState blake2s (parameters_of output_size (length key.now) salt.now persona.now)
         × (length out.old ≡ length messages.now * output_size)
-        × AreCounted blake2s key.now messages.now) }
+        × HaveCountableLengths blake2s key.now messages.now) }
     ensures digests { result ≡ pos 0 → out.new
-        ≡ digests_of blake2s output_size key.now salt.now persona.now messages.now }
+        ≡ digests_of_messages blake2s output_size key.now salt.now persona.now messages.now }
     ensures nothing { result ≡ negsuc 0 → out.new ≡ out.old }
 {
     let given = StateParameters {
@@ -150,9 +153,9 @@ pub extern "C" fn vulfsjor_ffi_blake2s_many(
 #[inline(never)]
 fn write_all(out: &mut [u8], given: &StateParameters<'_>, messages: &[Text<'_>])
     requires taken { AdmitsState blake2s (parameters_given given.now sequential) }
-    requires counted { AreCounted blake2s given.now.key.now messages.now }
+    requires counted { HaveCountableLengths blake2s given.now.key.now messages.now }
     requires room { length out.old ≡ length messages.now * given.now.output_size }
-    ensures { out.new ≡ digests_given blake2s given.now messages.now }
+    ensures { out.new ≡ digests_by_state_parameters blake2s given.now messages.now }
 {
     let mut done = 0;
     while done < messages.len() {

@@ -2,9 +2,9 @@
 
 ghost use Rattle.std.specs.Prelude.{◌≡◌, length, pos, negsuc};
 ghost use Rattle.blake2_simd.specs.Family.{blake2b};
-ghost use Rattle.blake2_state.specs.Blake2b.{CanBeSaved, HoldsNoMore, saved_bytes, zeros};
+ghost use Rattle.blake2_state.specs.Blake2b.{CanBeSaved, HoldsOnlySavedData, saved_bytes, zeros};
 ghost use Rattle.blake2_state.specs.SavedStates.{IsSavedState};
-ghost use Rattle.blake2_ffi.specs.Status.{Returns};
+ghost use Rattle.blake2_ffi.specs.Status.{IsStatusOf};
 
 use blake2_state::blake2b::State;
 
@@ -13,7 +13,7 @@ use blake2_state::blake2b::State;
 /// length; nothing is then written.
 #[unsafe(no_mangle)]
 pub extern "C" fn vulfsjor_ffi_blake2b_save(state: &State, out: &mut [u8]) -> i32
-    ensures status { Returns result (CanBeSaved state.now × (length out.old ≡ 275)) }
+    ensures status { IsStatusOf result (CanBeSaved state.now × (length out.old ≡ 275)) }
     ensures bytes { result ≡ pos 0 → out.new ≡ saved_bytes state.now }
     ensures nothing { result ≡ negsuc 0 → out.new ≡ out.old }
 {
@@ -31,10 +31,10 @@ pub extern "C" fn vulfsjor_ffi_blake2b_save(state: &State, out: &mut [u8]) -> i3
 /// -1 if they are not those of a saved state of BLAKE2b; the state is then zeroed.
 #[unsafe(no_mangle)]
 pub extern "C" fn vulfsjor_ffi_blake2b_load(state: &mut State, saved: &[u8]) -> i32
-    ensures status { Returns result (IsSavedState blake2b saved.now) }
+    ensures status { IsStatusOf result (IsSavedState blake2b saved.now) }
     ensures savable { result ≡ pos 0 → CanBeSaved state.new }
     ensures bytes { result ≡ pos 0 → saved_bytes state.new ≡ saved.now }
-    ensures no_more { result ≡ pos 0 → HoldsNoMore state.new }
+    ensures no_more { result ≡ pos 0 → HoldsOnlySavedData state.new }
     ensures zeros { result ≡ negsuc 0 → state.new ≡ zeros }
 {
     let Some(made) = State::load(saved) else {

@@ -3,8 +3,8 @@
 
 ghost use Rattle.std.specs.Prelude.{◌≡◌, ◌↔◌, ◌<◌, ℕ, length, pos, negsuc, IsTrue};
 ghost use Rattle.blake2_state.specs.Blake2s.{Absorbed, CanAbsorb, CanAbsorbAt, zeros};
-ghost use Rattle.blake2_state.specs.SeveralStates.{AreUpdated, piece_at};
-ghost use Rattle.blake2_ffi.specs.Status.{Returns};
+ghost use Rattle.blake2_state.specs.SeveralStates.{AreUpdated, input_bytes_at};
+ghost use Rattle.blake2_ffi.specs.Status.{IsStatusOf};
 
 use crate::blake2s::has_key_pending;
 use blake2_digest::scrub_stack;
@@ -48,7 +48,7 @@ fn update_in_frame(states: &mut [State], inputs: &[Text<'_>])
     requires same_number { length inputs.now ≡ length states.old }
     requires can { (j : ℕ) → j < length states.old
         → CanAbsorbAt states.old inputs.now j }
-    ensures { AreUpdated Absorbed zeros states.old (piece_at inputs.now) states.new
+    ensures { AreUpdated Absorbed zeros states.old (input_bytes_at inputs.now) states.new
         0 (length states.old) }
 {
     update_many(states, inputs);
@@ -60,9 +60,10 @@ fn update_in_frame(states: &mut [State], inputs: &[Text<'_>])
 /// the count of one would reach 2^64; all states then stay as they are.
 #[unsafe(no_mangle)]
 pub extern "C" fn vulfsjor_ffi_blake2s_update_many(states: &mut [State], inputs: &[Text<'_>]) -> i32
-    ensures status { Returns result ((length inputs.now ≡ length states.old)
+    ensures status { IsStatusOf result ((length inputs.now ≡ length states.old)
         × ((j : ℕ) → j < length states.old → CanAbsorbAt states.old inputs.now j)) }
-    ensures taken { result ≡ pos 0 → AreUpdated Absorbed zeros states.old (piece_at inputs.now)
+    ensures taken { result ≡ pos 0 → AreUpdated Absorbed zeros states.old
+        (input_bytes_at inputs.now)
         states.new 0 (length states.old) }
     ensures same { result ≡ negsuc 0 → states.new ≡ states.old }
 {

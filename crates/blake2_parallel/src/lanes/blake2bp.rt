@@ -11,10 +11,11 @@ ghost use Rattle.blake2_compress.specs.Hash.{bytes_of, compress as F, final, pad
 ghost use Rattle.blake2_compress.specs.Lanes.{flags_at, texts};
 ghost use Rattle.blake2_compress.specs.MessagePieces.{piece};
 ghost use Rattle.blake2_compress.specs.Views.{given_flags};
-ghost use Rattle.blake2_parallel.specs.LeafStates.{Took, WentOn, end_flags, leaf_chain};
+ghost use Rattle.blake2_parallel.specs.LeafStates.{HasAbsorbed, HasAbsorbedPrefix};
+ghost use Rattle.blake2_parallel.specs.LeafStates.{last_but_one_stripe_flags, leaf_chain};
 ghost use Rattle.blake2_parallel.specs.LeafStates.{leaf_future};
 ghost use Rattle.blake2_parallel.specs.LeafStates.{total};
-ghost use Rattle.blake2_parallel.specs.Blake2bp.{IsSound, leaves_of};
+ghost use Rattle.blake2_parallel.specs.Blake2bp.{HasBoundedCounts, leaves_of};
 
 use blake2_compress::compress::Flags;
 use blake2_compress::compress::blake2b::{compress, to_bytes, to_words};
@@ -238,7 +239,7 @@ fn compress_short(rows: &mut [u64x4; 8], bytes: &[u8], counter: u64, flags: &[Fl
 #[inline(always)]
 fn flags_before(n: usize, j: usize) -> Flags
     requires { j < 4 }
-    ensures { given_flags result ≡ end_flags blake2b n j }
+    ensures { given_flags result ≡ last_but_one_stripe_flags blake2b n j }
 {
     if j * 128 < n {
         Flags::INNER
@@ -253,7 +254,7 @@ fn compress_first(rows: &[u64x4; 8], bytes: &[u8], counter: u64, n: usize) -> [u
     requires counted { counter < 2 ^ 63 }
     ensures { (j : ℕ) → j < 4 → in_lane j result ≡ F blake2b (in_lane j rows.now)
         (filled 128 (piece 128 bytes.now j)) (counter + length (piece 128 bytes.now j))
-        (end_flags blake2b n j) }
+        (last_but_one_stripe_flags blake2b n j) }
 {
     let flags = [
         flags_before(n, 0),
@@ -360,17 +361,17 @@ impl Lanes {
 
     // Whether at most seven blocks are pending, and the count is below 2^64.
     pub(crate) fn is_sound(&self) -> bool
-        ensures { IsTrue result ↔ IsSound self.now }
+        ensures { IsTrue result ↔ HasBoundedCounts self.now }
     {
         self.length <= 896 && self.counter <= (u64::MAX - self.length as u64) / 4
     }
 
     // Absorbs an input that there is room for.
     fn append_pending(&mut self, input: &[u8])
-        requires sound { IsSound self.old }
+        requires sound { HasBoundedCounts self.old }
         requires room { self.old.length + length input.now ≤ 896 }
         requires counted { total blake2b (leaves_of self.old) + length input.now < 2 ^ 64 }
-        ensures sound { IsSound self.new }
+        ensures sound { HasBoundedCounts self.new }
         ensures rows { self.new.rows ≡ self.old.rows }
         ensures counter { self.new.counter ≡ self.old.counter }
         ensures pending { take self.new.length self.new.pending
@@ -384,12 +385,13 @@ impl Lanes {
 
     // Compresses the pending stripe. Each leaf has bytes after it.
     fn compress_held(&mut self, input: &[u8])
-        requires sound { IsSound self.old }
+        requires sound { HasBoundedCounts self.old }
         requires stripe { 512 ≤ self.old.length }
         requires more { 896 < self.old.length + length input.now }
         requires counted { total blake2b (leaves_of self.old) + length input.now < 2 ^ 64 }
-        ensures sound { IsSound self.new }
-        ensures went_on { WentOn blake2b (leaves_of self.old) input.now (leaves_of self.new)
+        ensures sound { HasBoundedCounts self.new }
+        ensures went_on { HasAbsorbedPrefix blake2b (leaves_of self.old) input.now
+            (leaves_of self.new)
             input.now }
         ensures fewer { self.new.length + 512 ≡ self.old.length }
     {
@@ -406,12 +408,13 @@ impl Lanes {
     // Compresses the stripes of an input, as long as each leaf has bytes after them. Returns what
     // is left. No bytes are pending.
     fn compress_input<'a>(&mut self, input: &'a [u8]) -> &'a [u8]
-        requires sound { IsSound self.old }
+        requires sound { HasBoundedCounts self.old }
         requires none { self.old.length ≡ 0 }
         requires more { 896 < length input.now }
         requires counted { total blake2b (leaves_of self.old) + length input.now < 2 ^ 64 }
-        ensures sound { IsSound self.new }
-        ensures went_on { WentOn blake2b (leaves_of self.old) input.now (leaves_of self.new)
+        ensures sound { HasBoundedCounts self.new }
+        ensures went_on { HasAbsorbedPrefix blake2b (leaves_of self.old) input.now
+            (leaves_of self.new)
             result.now }
         ensures short { length result.now ≤ 896 }
         ensures none { self.new.length ≡ 0 }
@@ -426,12 +429,13 @@ impl Lanes {
 
     // Fills the pending stripe up and compresses it. Returns what is left of the input.
     fn compress_filled<'a>(&mut self, input: &'a [u8]) -> &'a [u8]
-        requires sound { IsSound self.old }
+        requires sound { HasBoundedCounts self.old }
         requires open { self.old.length < 512 }
         requires more { 896 < self.old.length + length input.now }
         requires counted { total blake2b (leaves_of self.old) + length input.now < 2 ^ 64 }
-        ensures sound { IsSound self.new }
-        ensures went_on { WentOn blake2b (leaves_of self.old) input.now (leaves_of self.new)
+        ensures sound { HasBoundedCounts self.new }
+        ensures went_on { HasAbsorbedPrefix blake2b (leaves_of self.old) input.now
+            (leaves_of self.new)
             result.now }
         ensures fewer { self.new.length + length result.now < self.old.length + length input.now }
     {
@@ -443,11 +447,12 @@ impl Lanes {
 
     // Compresses stripes. Returns what is left of the input.
     fn take_stripes<'a>(&mut self, input: &'a [u8]) -> &'a [u8]
-        requires sound { IsSound self.old }
+        requires sound { HasBoundedCounts self.old }
         requires more { 896 < self.old.length + length input.now }
         requires counted { total blake2b (leaves_of self.old) + length input.now < 2 ^ 64 }
-        ensures sound { IsSound self.new }
-        ensures went_on { WentOn blake2b (leaves_of self.old) input.now (leaves_of self.new)
+        ensures sound { HasBoundedCounts self.new }
+        ensures went_on { HasAbsorbedPrefix blake2b (leaves_of self.old) input.now
+            (leaves_of self.new)
             result.now }
         ensures fewer { self.new.length + length result.now < self.old.length + length input.now }
     {
@@ -464,10 +469,10 @@ impl Lanes {
     // Absorbs the input after all that was absorbed before. Fewer than 2^64 bytes may be counted
     // in all.
     pub(crate) fn update(&mut self, input: &[u8])
-        requires sound { IsSound self.old }
+        requires sound { HasBoundedCounts self.old }
         requires counted { total blake2b (leaves_of self.old) + length input.now < 2 ^ 64 }
-        ensures sound { IsSound self.new }
-        ensures took { Took blake2b (leaves_of self.old) input.now (leaves_of self.new) }
+        ensures sound { HasBoundedCounts self.new }
+        ensures took { HasAbsorbed blake2b (leaves_of self.old) input.now (leaves_of self.new) }
     {
         let mut rest = input;
         while rest.len() > 896 - self.length {
@@ -478,7 +483,7 @@ impl Lanes {
 
     // The outputs of the leaves, if nothing more comes.
     pub(crate) fn outputs(&self) -> [[u8; 64]; 4]
-        requires { IsSound self.now }
+        requires { HasBoundedCounts self.now }
         ensures { (j : ℕ) → j < 4 → slice_index_or result j []
             ≡ leaf_future blake2b (leaves_of self.now) [] j }
     {

@@ -12,10 +12,11 @@ ghost use Rattle.blake2_compress.specs.Hash.{bytes_of, compress as F, final, pad
 ghost use Rattle.blake2_compress.specs.Lanes.{flags_at, texts};
 ghost use Rattle.blake2_compress.specs.MessagePieces.{piece};
 ghost use Rattle.blake2_compress.specs.Views.{given_flags};
-ghost use Rattle.blake2_parallel.specs.LeafStates.{Took, WentOn, end_flags, leaf_chain};
+ghost use Rattle.blake2_parallel.specs.LeafStates.{HasAbsorbed, HasAbsorbedPrefix};
+ghost use Rattle.blake2_parallel.specs.LeafStates.{last_but_one_stripe_flags, leaf_chain};
 ghost use Rattle.blake2_parallel.specs.LeafStates.{leaf_future};
 ghost use Rattle.blake2_parallel.specs.LeafStates.{total};
-ghost use Rattle.blake2_parallel.specs.Blake2sp.{IsSound, leaves_of};
+ghost use Rattle.blake2_parallel.specs.Blake2sp.{HasBoundedCounts, leaves_of};
 
 use blake2_compress::compress::Flags;
 use blake2_compress::compress::blake2s::{compress, to_bytes, to_words};
@@ -263,7 +264,7 @@ fn compress_short(rows: &mut [u32x8; 8], bytes: &[u8], counter: u64, flags: &[Fl
 #[inline(always)]
 fn flags_before(n: usize, j: usize) -> Flags
     requires { j < 8 }
-    ensures { given_flags result ≡ end_flags blake2s n j }
+    ensures { given_flags result ≡ last_but_one_stripe_flags blake2s n j }
 {
     if j * 64 < n {
         Flags::INNER
@@ -278,7 +279,7 @@ fn compress_first(rows: &[u32x8; 8], bytes: &[u8], counter: u64, n: usize) -> [u
     requires counted { counter < 2 ^ 63 }
     ensures { (j : ℕ) → j < 8 → in_lane j result ≡ F blake2s (in_lane j rows.now)
         (filled 64 (piece 64 bytes.now j)) (counter + length (piece 64 bytes.now j))
-        (end_flags blake2s n j) }
+        (last_but_one_stripe_flags blake2s n j) }
 {
     let flags = [
         flags_before(n, 0),
@@ -397,17 +398,17 @@ impl Lanes {
 
     // Whether at most fifteen blocks are pending, and the count is below 2^64.
     pub(crate) fn is_sound(&self) -> bool
-        ensures { IsTrue result ↔ IsSound self.now }
+        ensures { IsTrue result ↔ HasBoundedCounts self.now }
     {
         self.length <= 960 && self.counter <= (u64::MAX - self.length as u64) / 8
     }
 
     // Absorbs an input that there is room for.
     fn append_pending(&mut self, input: &[u8])
-        requires sound { IsSound self.old }
+        requires sound { HasBoundedCounts self.old }
         requires room { self.old.length + length input.now ≤ 960 }
         requires counted { total blake2s (leaves_of self.old) + length input.now < 2 ^ 64 }
-        ensures sound { IsSound self.new }
+        ensures sound { HasBoundedCounts self.new }
         ensures rows { self.new.rows ≡ self.old.rows }
         ensures counter { self.new.counter ≡ self.old.counter }
         ensures pending { take self.new.length self.new.pending
@@ -421,12 +422,13 @@ impl Lanes {
 
     // Compresses the pending stripe. Each leaf has bytes after it.
     fn compress_held(&mut self, input: &[u8])
-        requires sound { IsSound self.old }
+        requires sound { HasBoundedCounts self.old }
         requires stripe { 512 ≤ self.old.length }
         requires more { 960 < self.old.length + length input.now }
         requires counted { total blake2s (leaves_of self.old) + length input.now < 2 ^ 64 }
-        ensures sound { IsSound self.new }
-        ensures went_on { WentOn blake2s (leaves_of self.old) input.now (leaves_of self.new)
+        ensures sound { HasBoundedCounts self.new }
+        ensures went_on { HasAbsorbedPrefix blake2s (leaves_of self.old) input.now
+            (leaves_of self.new)
             input.now }
         ensures fewer { self.new.length + 512 ≡ self.old.length }
     {
@@ -443,12 +445,13 @@ impl Lanes {
     // Compresses the stripes of an input, as long as each leaf has bytes after them. Returns what
     // is left. No bytes are pending.
     fn compress_input<'a>(&mut self, input: &'a [u8]) -> &'a [u8]
-        requires sound { IsSound self.old }
+        requires sound { HasBoundedCounts self.old }
         requires none { self.old.length ≡ 0 }
         requires more { 960 < length input.now }
         requires counted { total blake2s (leaves_of self.old) + length input.now < 2 ^ 64 }
-        ensures sound { IsSound self.new }
-        ensures went_on { WentOn blake2s (leaves_of self.old) input.now (leaves_of self.new)
+        ensures sound { HasBoundedCounts self.new }
+        ensures went_on { HasAbsorbedPrefix blake2s (leaves_of self.old) input.now
+            (leaves_of self.new)
             result.now }
         ensures short { length result.now ≤ 960 }
         ensures none { self.new.length ≡ 0 }
@@ -463,12 +466,13 @@ impl Lanes {
 
     // Fills the pending stripe up and compresses it. Returns what is left of the input.
     fn compress_filled<'a>(&mut self, input: &'a [u8]) -> &'a [u8]
-        requires sound { IsSound self.old }
+        requires sound { HasBoundedCounts self.old }
         requires open { self.old.length < 512 }
         requires more { 960 < self.old.length + length input.now }
         requires counted { total blake2s (leaves_of self.old) + length input.now < 2 ^ 64 }
-        ensures sound { IsSound self.new }
-        ensures went_on { WentOn blake2s (leaves_of self.old) input.now (leaves_of self.new)
+        ensures sound { HasBoundedCounts self.new }
+        ensures went_on { HasAbsorbedPrefix blake2s (leaves_of self.old) input.now
+            (leaves_of self.new)
             result.now }
         ensures fewer { self.new.length + length result.now < self.old.length + length input.now }
     {
@@ -480,11 +484,12 @@ impl Lanes {
 
     // Compresses stripes. Returns what is left of the input.
     fn take_stripes<'a>(&mut self, input: &'a [u8]) -> &'a [u8]
-        requires sound { IsSound self.old }
+        requires sound { HasBoundedCounts self.old }
         requires more { 960 < self.old.length + length input.now }
         requires counted { total blake2s (leaves_of self.old) + length input.now < 2 ^ 64 }
-        ensures sound { IsSound self.new }
-        ensures went_on { WentOn blake2s (leaves_of self.old) input.now (leaves_of self.new)
+        ensures sound { HasBoundedCounts self.new }
+        ensures went_on { HasAbsorbedPrefix blake2s (leaves_of self.old) input.now
+            (leaves_of self.new)
             result.now }
         ensures fewer { self.new.length + length result.now < self.old.length + length input.now }
     {
@@ -501,10 +506,10 @@ impl Lanes {
     // Absorbs the input after all that was absorbed before. Fewer than 2^64 bytes may be counted
     // in all.
     pub(crate) fn update(&mut self, input: &[u8])
-        requires sound { IsSound self.old }
+        requires sound { HasBoundedCounts self.old }
         requires counted { total blake2s (leaves_of self.old) + length input.now < 2 ^ 64 }
-        ensures sound { IsSound self.new }
-        ensures took { Took blake2s (leaves_of self.old) input.now (leaves_of self.new) }
+        ensures sound { HasBoundedCounts self.new }
+        ensures took { HasAbsorbed blake2s (leaves_of self.old) input.now (leaves_of self.new) }
     {
         let mut rest = input;
         while rest.len() > 960 - self.length {
@@ -515,7 +520,7 @@ impl Lanes {
 
     // The outputs of the leaves, if nothing more comes.
     pub(crate) fn outputs(&self) -> [[u8; 32]; 8]
-        requires { IsSound self.now }
+        requires { HasBoundedCounts self.now }
         ensures { (j : ℕ) → j < 8 → slice_index_or result j []
             ≡ leaf_future blake2s (leaves_of self.now) [] j }
     {

@@ -4,7 +4,7 @@ ghost use Rattle.std.specs.Prelude.{◌≡◌, ⊤, ◌<◌, ◌≤◌, ◌↔�
 ghost use Rattle.std.proofs.Common.{arith};
 ghost use Rattle.blake2_simd.specs.Family.{blake2b};
 ghost use Rattle.blake2_parallel.specs.Parallel.{digests, settings};
-ghost use Rattle.blake2_parallel.specs.Blake2bp.{IsWithin, zeros_for};
+ghost use Rattle.blake2_parallel.specs.Blake2bp.{IsWithinLimits, zeros_for};
 
 use crate::blake2bp::State;
 use blake2_digest::{
@@ -20,7 +20,7 @@ pub struct Blake2bpMac<const N: usize> {
     state: State,
     ghost supported: { N ≤ 64 },
     ghost size: { state.output_size ≡ N },
-    ghost within: { IsWithin state },
+    ghost within: { IsWithinLimits state },
 }
 
 impl<const N: usize> Blake2bpMac<N> {
@@ -126,9 +126,9 @@ impl<const N: usize> FixedOutput<N> for Blake2bpMac<N> {
 
 impl<const N: usize> Reset for Blake2bpMac<N> {
     ghost use Rattle.blake2_parallel.specs.HasherMeanings.{blake2bp_mac_meaning};
-    ghost use Rattle.blake2_digest.specs.States.{StartedAgain};
+    ghost use Rattle.blake2_digest.specs.States.{ResetToStart};
 
-    ghost is_reset = { StartedAgain (blake2bp_mac_meaning N) };
+    ghost is_reset = { ResetToStart (blake2bp_mac_meaning N) };
 
     fn reset(&mut self) {
         self.state.reset();

@@ -5,7 +5,7 @@ ghost use Rattle.std.specs.Prelude.{◌≡◌, ⊤, ◌<◌, ◌≤◌, ◌↔�
 ghost use Rattle.std.proofs.Common.{arith};
 ghost use Rattle.blake2_simd.specs.Family.{blake2s};
 ghost use Rattle.blake2_parallel.specs.Parallel.{digests, settings};
-ghost use Rattle.blake2_parallel.specs.Blake2sp.{IsWithin, zeros_for};
+ghost use Rattle.blake2_parallel.specs.Blake2sp.{IsWithinLimits, zeros_for};
 
 use crate::blake2sp::State;
 use blake2_digest::{
@@ -21,7 +21,7 @@ pub struct Blake2spMac<const N: usize> {
     state: State,
     ghost supported: { N ≤ 32 },
     ghost size: { state.output_size ≡ N },
-    ghost within: { IsWithin state },
+    ghost within: { IsWithinLimits state },
 }
 
 impl<const N: usize> Blake2spMac<N> {
@@ -127,9 +127,9 @@ impl<const N: usize> FixedOutput<N> for Blake2spMac<N> {
 
 impl<const N: usize> Reset for Blake2spMac<N> {
     ghost use Rattle.blake2_parallel.specs.HasherMeanings.{blake2sp_mac_meaning};
-    ghost use Rattle.blake2_digest.specs.States.{StartedAgain};
+    ghost use Rattle.blake2_digest.specs.States.{ResetToStart};
 
-    ghost is_reset = { StartedAgain (blake2sp_mac_meaning N) };
+    ghost is_reset = { ResetToStart (blake2sp_mac_meaning N) };
 
     fn reset(&mut self) {
         self.state.reset();

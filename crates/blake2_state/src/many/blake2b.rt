@@ -7,9 +7,10 @@ ghost use Rattle.std.specs.Simd.{first_chunks};
 ghost use Rattle.blake2_simd.specs.Family.{blake2b};
 ghost use Rattle.blake2_compress.specs.Hash;
 ghost use Rattle.blake2_compress.specs.Lanes.{block_lists};
-ghost use Rattle.blake2_state.specs.Blake2b.{Absorbed, CanAbsorb, CanAbsorbAt, text_at};
-ghost use Rattle.blake2_state.specs.Blake2b.{uncompressed, zeros};
-ghost use Rattle.blake2_state.specs.SeveralStates.{AreUpdated, piece_at};
+ghost use Rattle.blake2_state.specs.Blake2b.{Absorbed, CanAbsorb, CanAbsorbAt};
+ghost use Rattle.blake2_state.specs.Blake2b.{pending_and_input_at};
+ghost use Rattle.blake2_state.specs.Blake2b.{pending_and_input, zeros};
+ghost use Rattle.blake2_state.specs.SeveralStates.{AreUpdated, input_bytes_at};
 
 use super::Text;
 use crate::blake2b::State;
@@ -58,8 +59,8 @@ fn counters<const N: usize>(states: &[State], from: usize) -> [u64; N]
 #[inline(always)]
 fn first_block(state: &State, input: &[u8]) -> [u8; 128]
     requires can { CanAbsorb state.now input.now }
-    requires enough { 128 ≤ length (uncompressed state.now input.now) }
-    ensures { result ≡ take 128 (uncompressed state.now input.now) }
+    requires enough { 128 ≤ length (pending_and_input state.now input.now) }
+    ensures { result ≡ take 128 (pending_and_input state.now input.now) }
 {
     let held = state.pending_length as usize;
     let mut block = state.pending;
@@ -71,8 +72,9 @@ fn first_block(state: &State, input: &[u8]) -> [u8; 128]
 #[inline(always)]
 fn blocks_after<'a>(state: &State, input: &'a [u8], count: usize) -> &'a [[u8; 128]]
     requires can { CanAbsorb state.now input.now }
-    requires enough { 128 * count + 128 ≤ length (uncompressed state.now input.now) }
-    ensures { result.now ≡ first_chunks 128 count (drop 128 (uncompressed state.now input.now)) }
+    requires enough { 128 * count + 128 ≤ length (pending_and_input state.now input.now) }
+    ensures { result.now ≡ first_chunks 128 count
+        (drop 128 (pending_and_input state.now input.now)) }
 {
     let rest = &input[128 - state.pending_length as usize..];
     let (blocks, _) = rest[..128 * count].as_chunks::<128>();
@@ -89,9 +91,10 @@ fn leading_blocks<const N: usize>(
     requires states { from + N ≤ length states.now }
     requires inputs { from + N ≤ length inputs.now }
     requires can { (j : ℕ) → j < N → CanAbsorbAt states.now inputs.now (from + j) }
-    requires enough { (j : ℕ) → j < N → 128 ≤ length (text_at states.now inputs.now (from + j)) }
+    requires enough { (j : ℕ) → j < N → 128 ≤ length
+        (pending_and_input_at states.now inputs.now (from + j)) }
     ensures { (j : ℕ) → j < N → slice_index_or result j [] ≡ take 128
-        (text_at states.now inputs.now (from + j)) }
+        (pending_and_input_at states.now inputs.now (from + j)) }
 {
     let mut blocks = [[0; 128]; N];
     for j in 0..N {
@@ -111,9 +114,10 @@ fn later_eight<'a>(
     requires inputs { from + 8 ≤ length inputs.now }
     requires can { (j : ℕ) → j < 8 → CanAbsorbAt states.now inputs.now (from + j) }
     requires enough { (j : ℕ) → j < 8
-        → 128 * count + 128 ≤ length (text_at states.now inputs.now (from + j)) }
+        → 128 * count + 128 ≤ length (pending_and_input_at states.now inputs.now (from + j)) }
     ensures { (j : ℕ) → j < 8 → slice_index_or (block_lists result) j []
-        ≡ first_chunks 128 count (drop 128 (text_at states.now inputs.now (from + j))) }
+        ≡ first_chunks 128 count (drop 128 (pending_and_input_at states.now inputs.now
+        (from + j))) }
 {
     let mut blocks: [&[[u8; 128]]; 8] = [&[]; 8];
     for j in 0..8 {
@@ -133,9 +137,10 @@ fn later_four<'a>(
     requires inputs { from + 4 ≤ length inputs.now }
     requires can { (j : ℕ) → j < 4 → CanAbsorbAt states.now inputs.now (from + j) }
     requires enough { (j : ℕ) → j < 4
-        → 128 * count + 128 ≤ length (text_at states.now inputs.now (from + j)) }
+        → 128 * count + 128 ≤ length (pending_and_input_at states.now inputs.now (from + j)) }
     ensures { (j : ℕ) → j < 4 → slice_index_or (block_lists result) j []
-        ≡ first_chunks 128 count (drop 128 (text_at states.now inputs.now (from + j))) }
+        ≡ first_chunks 128 count (drop 128 (pending_and_input_at states.now inputs.now
+        (from + j))) }
 {
     let mut blocks: [&[[u8; 128]]; 4] = [&[]; 4];
     for j in 0..4 {
@@ -148,10 +153,10 @@ fn later_four<'a>(
 // compressed: `chain` has the chaining words after these.
 fn absorb_run(state: &mut State, chain: &[u64; 8], input: &[u8], count: usize)
     requires can { CanAbsorb state.old input.now }
-    requires least { 128 * count + 128 < length (uncompressed state.old input.now) }
-    requires most { length (uncompressed state.old input.now) ≤ 128 * count + 256 }
+    requires least { 128 * count + 128 < length (pending_and_input state.old input.now) }
+    requires most { length (pending_and_input state.old input.now) ≤ 128 * count + 256 }
     requires words { chain.now ≡ Hash.chain blake2b state.old.chain state.old.counter
-        (first_chunks 128 (count + 1) (uncompressed state.old input.now)) (count + 1) }
+        (first_chunks 128 (count + 1) (pending_and_input state.old input.now)) (count + 1) }
     ensures { Absorbed state.old input.now state.new }
 {
     let rest = &input[128 - state.pending_length as usize + 128 * count..];
@@ -165,9 +170,9 @@ fn absorb_run(state: &mut State, chain: &[u64; 8], input: &[u8], count: usize)
 // already: `chain` has the chaining words after these.
 fn go_on(state: &mut State, chain: &[u64; 8], input: &[u8], count: usize)
     requires can { CanAbsorb state.old input.now }
-    requires least { 128 * count + 128 < length (uncompressed state.old input.now) }
+    requires least { 128 * count + 128 < length (pending_and_input state.old input.now) }
     requires words { chain.now ≡ Hash.chain blake2b state.old.chain state.old.counter
-        (first_chunks 128 (count + 1) (uncompressed state.old input.now)) (count + 1) }
+        (first_chunks 128 (count + 1) (pending_and_input state.old input.now)) (count + 1) }
     ensures { Absorbed state.old input.now state.new }
 {
     let end = 128 - state.pending_length as usize + 128 * count + 128;
@@ -179,7 +184,7 @@ fn go_on(state: &mut State, chain: &[u64; 8], input: &[u8], count: usize)
 // The number of bytes of what a state has not compressed, with its input.
 fn bytes_left(state: &State, input: &[u8]) -> usize
     requires { CanAbsorb state.now input.now }
-    ensures { result ≡ length (uncompressed state.now input.now) }
+    ensures { result ≡ length (pending_and_input state.now input.now) }
 {
     state.pending_length as usize + input.len()
 }
@@ -191,7 +196,8 @@ fn fewest_bytes(states: &[State], inputs: &[Text<'_>], from: usize, n: usize) ->
     requires states { from + n ≤ length states.now }
     requires inputs { from + n ≤ length inputs.now }
     requires can { (j : ℕ) → j < n → CanAbsorbAt states.now inputs.now (from + j) }
-    ensures { (j : ℕ) → j < n → result ≤ length (text_at states.now inputs.now (from + j)) }
+    ensures { (j : ℕ) → j < n → result ≤ length
+        (pending_and_input_at states.now inputs.now (from + j)) }
 {
     let mut fewest = usize::MAX;
     for j in 0..n {
@@ -207,8 +213,8 @@ fn update_eight(states: &mut [State], inputs: &[Text<'_>], from: usize, count: u
     requires inputs { from + 8 ≤ length inputs.now }
     requires can { (j : ℕ) → j < 8 → CanAbsorbAt states.old inputs.now (from + j) }
     requires enough { (j : ℕ) → j < 8
-        → 128 * count + 128 < length (text_at states.old inputs.now (from + j)) }
-    ensures { AreUpdated Absorbed zeros states.old (piece_at inputs.now) states.new
+        → 128 * count + 128 < length (pending_and_input_at states.old inputs.now (from + j)) }
+    ensures { AreUpdated Absorbed zeros states.old (input_bytes_at inputs.now) states.new
         from (from + 8) }
 {
     let words = continue_eight(
@@ -233,8 +239,8 @@ fn update_four(states: &mut [State], inputs: &[Text<'_>], from: usize, count: us
     requires inputs { from + 4 ≤ length inputs.now }
     requires can { (j : ℕ) → j < 4 → CanAbsorbAt states.old inputs.now (from + j) }
     requires enough { (j : ℕ) → j < 4
-        → 128 * count + 128 < length (text_at states.old inputs.now (from + j)) }
-    ensures { AreUpdated Absorbed zeros states.old (piece_at inputs.now) states.new
+        → 128 * count + 128 < length (pending_and_input_at states.old inputs.now (from + j)) }
+    ensures { AreUpdated Absorbed zeros states.old (input_bytes_at inputs.now) states.new
         from (from + 4) }
 {
     let words = continue_four(
@@ -262,7 +268,7 @@ fn update_next(states: &mut [State], inputs: &[Text<'_>], from: usize) -> usize
         → CanAbsorbAt states.old inputs.now j }
     ensures some { 0 < result }
     ensures most { from + result ≤ length states.old }
-    ensures updated { AreUpdated Absorbed zeros states.old (piece_at inputs.now) states.new
+    ensures updated { AreUpdated Absorbed zeros states.old (input_bytes_at inputs.now) states.new
         from (from + result) }
 {
     let left = inputs.len() - from;
@@ -292,7 +298,7 @@ pub fn update_many(states: &mut [State], inputs: &[Text<'_>])
     requires same_number { length inputs.now ≡ length states.old }
     requires can { (j : ℕ) → j < length states.old
         → CanAbsorbAt states.old inputs.now j }
-    ensures { AreUpdated Absorbed zeros states.old (piece_at inputs.now) states.new
+    ensures { AreUpdated Absorbed zeros states.old (input_bytes_at inputs.now) states.new
         0 (length states.old) }
 {
     let mut done = 0;

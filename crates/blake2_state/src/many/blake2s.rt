@@ -8,9 +8,10 @@ ghost use Rattle.std.specs.Simd.{first_chunks};
 ghost use Rattle.blake2_simd.specs.Family.{blake2s};
 ghost use Rattle.blake2_compress.specs.Hash;
 ghost use Rattle.blake2_compress.specs.Lanes.{block_lists};
-ghost use Rattle.blake2_state.specs.Blake2s.{Absorbed, CanAbsorb, CanAbsorbAt, text_at};
-ghost use Rattle.blake2_state.specs.Blake2s.{uncompressed, zeros};
-ghost use Rattle.blake2_state.specs.SeveralStates.{AreUpdated, piece_at};
+ghost use Rattle.blake2_state.specs.Blake2s.{Absorbed, CanAbsorb, CanAbsorbAt};
+ghost use Rattle.blake2_state.specs.Blake2s.{pending_and_input_at};
+ghost use Rattle.blake2_state.specs.Blake2s.{pending_and_input, zeros};
+ghost use Rattle.blake2_state.specs.SeveralStates.{AreUpdated, input_bytes_at};
 
 use super::Text;
 use crate::blake2s::State;
@@ -58,8 +59,8 @@ fn counters<const N: usize>(states: &[State], from: usize) -> [u64; N]
 #[inline(always)]
 fn first_block(state: &State, input: &[u8]) -> [u8; 64]
     requires can { CanAbsorb state.now input.now }
-    requires enough { 64 ≤ length (uncompressed state.now input.now) }
-    ensures { result ≡ take 64 (uncompressed state.now input.now) }
+    requires enough { 64 ≤ length (pending_and_input state.now input.now) }
+    ensures { result ≡ take 64 (pending_and_input state.now input.now) }
 {
     let held = state.pending_length as usize;
     let mut block = state.pending;
@@ -71,8 +72,9 @@ fn first_block(state: &State, input: &[u8]) -> [u8; 64]
 #[inline(always)]
 fn blocks_after<'a>(state: &State, input: &'a [u8], count: usize) -> &'a [[u8; 64]]
     requires can { CanAbsorb state.now input.now }
-    requires enough { 64 * count + 64 ≤ length (uncompressed state.now input.now) }
-    ensures { result.now ≡ first_chunks 64 count (drop 64 (uncompressed state.now input.now)) }
+    requires enough { 64 * count + 64 ≤ length (pending_and_input state.now input.now) }
+    ensures { result.now ≡ first_chunks 64 count
+        (drop 64 (pending_and_input state.now input.now)) }
 {
     let rest = &input[64 - state.pending_length as usize..];
     let (blocks, _) = rest[..64 * count].as_chunks::<64>();
@@ -89,9 +91,10 @@ fn leading_blocks<const N: usize>(
     requires states { from + N ≤ length states.now }
     requires inputs { from + N ≤ length inputs.now }
     requires can { (j : ℕ) → j < N → CanAbsorbAt states.now inputs.now (from + j) }
-    requires enough { (j : ℕ) → j < N → 64 ≤ length (text_at states.now inputs.now (from + j)) }
+    requires enough { (j : ℕ) → j < N → 64 ≤ length
+        (pending_and_input_at states.now inputs.now (from + j)) }
     ensures { (j : ℕ) → j < N → slice_index_or result j [] ≡ take 64
-        (text_at states.now inputs.now (from + j)) }
+        (pending_and_input_at states.now inputs.now (from + j)) }
 {
     let mut blocks = [[0; 64]; N];
     for j in 0..N {
@@ -111,9 +114,10 @@ fn later_eight<'a>(
     requires inputs { from + 8 ≤ length inputs.now }
     requires can { (j : ℕ) → j < 8 → CanAbsorbAt states.now inputs.now (from + j) }
     requires enough { (j : ℕ) → j < 8
-        → 64 * count + 64 ≤ length (text_at states.now inputs.now (from + j)) }
+        → 64 * count + 64 ≤ length (pending_and_input_at states.now inputs.now (from + j)) }
     ensures { (j : ℕ) → j < 8 → slice_index_or (block_lists result) j []
-        ≡ first_chunks 64 count (drop 64 (text_at states.now inputs.now (from + j))) }
+        ≡ first_chunks 64 count (drop 64 (pending_and_input_at states.now inputs.now
+        (from + j))) }
 {
     let mut blocks: [&[[u8; 64]]; 8] = [&[]; 8];
     for j in 0..8 {
@@ -126,10 +130,10 @@ fn later_eight<'a>(
 // compressed: `chain` has the chaining words after these.
 fn absorb_run(state: &mut State, chain: &[u32; 8], input: &[u8], count: usize)
     requires can { CanAbsorb state.old input.now }
-    requires least { 64 * count + 64 < length (uncompressed state.old input.now) }
-    requires most { length (uncompressed state.old input.now) ≤ 64 * count + 128 }
+    requires least { 64 * count + 64 < length (pending_and_input state.old input.now) }
+    requires most { length (pending_and_input state.old input.now) ≤ 64 * count + 128 }
     requires words { chain.now ≡ Hash.chain blake2s state.old.chain state.old.counter
-        (first_chunks 64 (count + 1) (uncompressed state.old input.now)) (count + 1) }
+        (first_chunks 64 (count + 1) (pending_and_input state.old input.now)) (count + 1) }
     ensures { Absorbed state.old input.now state.new }
 {
     let rest = &input[64 - state.pending_length as usize + 64 * count..];
@@ -143,9 +147,9 @@ fn absorb_run(state: &mut State, chain: &[u32; 8], input: &[u8], count: usize)
 // already: `chain` has the chaining words after these.
 fn go_on(state: &mut State, chain: &[u32; 8], input: &[u8], count: usize)
     requires can { CanAbsorb state.old input.now }
-    requires least { 64 * count + 64 < length (uncompressed state.old input.now) }
+    requires least { 64 * count + 64 < length (pending_and_input state.old input.now) }
     requires words { chain.now ≡ Hash.chain blake2s state.old.chain state.old.counter
-        (first_chunks 64 (count + 1) (uncompressed state.old input.now)) (count + 1) }
+        (first_chunks 64 (count + 1) (pending_and_input state.old input.now)) (count + 1) }
     ensures { Absorbed state.old input.now state.new }
 {
     let end = 64 - state.pending_length as usize + 64 * count + 64;
@@ -157,7 +161,7 @@ fn go_on(state: &mut State, chain: &[u32; 8], input: &[u8], count: usize)
 // The number of bytes of what a state has not compressed, with its input.
 fn bytes_left(state: &State, input: &[u8]) -> usize
     requires { CanAbsorb state.now input.now }
-    ensures { result ≡ length (uncompressed state.now input.now) }
+    ensures { result ≡ length (pending_and_input state.now input.now) }
 {
     state.pending_length as usize + input.len()
 }
@@ -169,7 +173,8 @@ fn fewest_bytes(states: &[State], inputs: &[Text<'_>], from: usize, n: usize) ->
     requires states { from + n ≤ length states.now }
     requires inputs { from + n ≤ length inputs.now }
     requires can { (j : ℕ) → j < n → CanAbsorbAt states.now inputs.now (from + j) }
-    ensures { (j : ℕ) → j < n → result ≤ length (text_at states.now inputs.now (from + j)) }
+    ensures { (j : ℕ) → j < n → result ≤ length
+        (pending_and_input_at states.now inputs.now (from + j)) }
 {
     let mut fewest = usize::MAX;
     for j in 0..n {
@@ -185,8 +190,8 @@ fn update_eight(states: &mut [State], inputs: &[Text<'_>], from: usize, count: u
     requires inputs { from + 8 ≤ length inputs.now }
     requires can { (j : ℕ) → j < 8 → CanAbsorbAt states.old inputs.now (from + j) }
     requires enough { (j : ℕ) → j < 8
-        → 64 * count + 64 < length (text_at states.old inputs.now (from + j)) }
-    ensures { AreUpdated Absorbed zeros states.old (piece_at inputs.now) states.new
+        → 64 * count + 64 < length (pending_and_input_at states.old inputs.now (from + j)) }
+    ensures { AreUpdated Absorbed zeros states.old (input_bytes_at inputs.now) states.new
         from (from + 8) }
 {
     let words = continue_eight(
@@ -214,7 +219,7 @@ fn update_next(states: &mut [State], inputs: &[Text<'_>], from: usize) -> usize
         → CanAbsorbAt states.old inputs.now j }
     ensures some { 0 < result }
     ensures most { from + result ≤ length states.old }
-    ensures updated { AreUpdated Absorbed zeros states.old (piece_at inputs.now) states.new
+    ensures updated { AreUpdated Absorbed zeros states.old (input_bytes_at inputs.now) states.new
         from (from + result) }
 {
     let left = inputs.len() - from;
@@ -237,7 +242,7 @@ pub fn update_many(states: &mut [State], inputs: &[Text<'_>])
     requires same_number { length inputs.now ≡ length states.old }
     requires can { (j : ℕ) → j < length states.old
         → CanAbsorbAt states.old inputs.now j }
-    ensures { AreUpdated Absorbed zeros states.old (piece_at inputs.now) states.new
+    ensures { AreUpdated Absorbed zeros states.old (input_bytes_at inputs.now) states.new
         0 (length states.old) }
 {
     let mut done = 0;

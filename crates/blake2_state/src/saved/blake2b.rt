@@ -5,7 +5,7 @@ ghost use Rattle.std.specs.Prelude.{IfSome, IsSome, IsTrue, SomeIff};
 ghost use Rattle.std.specs.Int.{from_le_bytes, w64};
 ghost use Rattle.blake2_simd.specs.Family.{blake2b};
 ghost use Rattle.blake2_compress.specs.Hash.{words_of};
-ghost use Rattle.blake2_state.specs.Blake2b.{CanBeSaved, HoldsNoMore, IsReady, saved_bytes};
+ghost use Rattle.blake2_state.specs.Blake2b.{CanBeSaved, HoldsOnlySavedData, IsReady, saved_bytes};
 ghost use Rattle.blake2_state.specs.Blake2b.{state_of};
 ghost use Rattle.blake2_state.specs.SavedStates.{IsSavedState};
 
@@ -106,7 +106,7 @@ impl State {
         ensures bytes { IfSome result (λ s. saved_bytes s ≡ saved.now) }
         ensures same { (was : IsSavedState blake2b saved.now) → IfSome result (λ s.
             (s.output_size ≡ was.size) × (state_of s ≡ was.state)) }
-        ensures no_more { IfSome result HoldsNoMore }
+        ensures no_more { IfSome result HoldsOnlySavedData }
     {
         if saved.len() != 275 {
             return None;

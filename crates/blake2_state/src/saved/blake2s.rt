@@ -6,7 +6,7 @@ ghost use Rattle.std.specs.Prelude.{IfSome, IsSome, IsTrue, SomeIff};
 ghost use Rattle.std.specs.Int.{from_le_bytes, w64};
 ghost use Rattle.blake2_simd.specs.Family.{blake2s};
 ghost use Rattle.blake2_compress.specs.Hash.{words_of};
-ghost use Rattle.blake2_state.specs.Blake2s.{CanBeSaved, HoldsNoMore, IsReady, saved_bytes};
+ghost use Rattle.blake2_state.specs.Blake2s.{CanBeSaved, HoldsOnlySavedData, IsReady, saved_bytes};
 ghost use Rattle.blake2_state.specs.Blake2s.{state_of};
 ghost use Rattle.blake2_state.specs.SavedStates.{IsSavedState};
 
@@ -107,7 +107,7 @@ impl State {
         ensures bytes { IfSome result (λ s. saved_bytes s ≡ saved.now) }
         ensures same { (was : IsSavedState blake2s saved.now) → IfSome result (λ s.
             (s.output_size ≡ was.size) × (state_of s ≡ was.state)) }
-        ensures no_more { IfSome result HoldsNoMore }
+        ensures no_more { IfSome result HoldsOnlySavedData }
     {
         if saved.len() != 147 {
             return None;

@@ -33,7 +33,8 @@ fn input_start_rows(input: &Input<'_>, output_size: usize) -> [u64x4; 2]
 
 // The step of an entry, at the chaining words before it.
 fn step_at(chain: &[u64x4; 2], entry: &Entry<128>) -> Step<u64, 128>
-    ensures { step_of result ≡ Transcript.step_at (chaining_words chain.now) (entry_of entry.now) }
+    ensures { step_of result
+        ≡ Transcript.step_of_entry (chaining_words chain.now) (entry_of entry.now) }
 {
     Step {
         chain: words::to_words(chain),
@@ -47,7 +48,8 @@ fn step_at(chain: &[u64x4; 2], entry: &Entry<128>) -> Step<u64, 128>
 // What F returns for that step.
 fn output_of(chain: &[u64x4; 2], entry: &Entry<128>) -> [u64x4; 2]
     ensures { chaining_words result
-        ≡ output blake2b (Transcript.step_at (chaining_words chain.now) (entry_of entry.now)) }
+        ≡ output blake2b
+        (Transcript.step_of_entry (chaining_words chain.now) (entry_of entry.now)) }
 {
     let mut after = *chain;
     let flags = Flags {
@@ -62,7 +64,7 @@ fn output_of(chain: &[u64x4; 2], entry: &Entry<128>) -> [u64x4; 2]
 fn last_step(input: &Input<'_>, output_size: usize) -> ([u64x4; 2], Entry<128>)
     requires accepted { Accepts blake2b (input_of input.now) }
     requires size { output_size ≤ output_bytes blake2b }
-    ensures { Transcript.step_at (chaining_words result.0) (entry_of result.1)
+    ensures { Transcript.step_of_entry (chaining_words result.0) (entry_of result.1)
         ≡ Run.last_step blake2b output_size (input_of input.now) }
 {
     let last = step_count::<128>(input) - 1;
@@ -77,7 +79,8 @@ fn last_step(input: &Input<'_>, output_size: usize) -> ([u64x4; 2], Entry<128>)
 // digest.
 fn bytes_after(chain: &[u64x4; 2], entry: &Entry<128>) -> [u8; 64]
     ensures { result ≡ bytes_of blake2b
-        (output blake2b (Transcript.step_at (chaining_words chain.now) (entry_of entry.now))) }
+        (output blake2b
+        (Transcript.step_of_entry (chaining_words chain.now) (entry_of entry.now))) }
 {
     words::to_bytes(&output_of(chain, entry))
 }
@@ -92,9 +95,9 @@ fn same_digest(
 ) -> bool
     requires size { output_size ≤ output_bytes blake2b }
     ensures { (a b : Hash.Input)
-        → Transcript.step_at (chaining_words chain_a.now) (entry_of x.now)
+        → Transcript.step_of_entry (chaining_words chain_a.now) (entry_of x.now)
         ≡ Run.last_step blake2b output_size a
-        → Transcript.step_at (chaining_words chain_b.now) (entry_of y.now)
+        → Transcript.step_of_entry (chaining_words chain_b.now) (entry_of y.now)
         ≡ Run.last_step blake2b output_size b
         → IsTrue result ↔ (digest blake2b output_size a ≡ digest blake2b output_size b) }
 {
@@ -106,8 +109,8 @@ fn same_digest(
 // Whether the steps of two entries, each at the chaining words before it, are equal.
 fn same_step(chain_a: &[u64x4; 2], x: &Entry<128>, chain_b: &[u64x4; 2], y: &Entry<128>) -> bool
     ensures { IsTrue result
-        ↔ (Transcript.step_at (chaining_words chain_a.now) (entry_of x.now)
-        ≡ Transcript.step_at (chaining_words chain_b.now) (entry_of y.now)) }
+        ↔ (Transcript.step_of_entry (chaining_words chain_a.now) (entry_of x.now)
+        ≡ Transcript.step_of_entry (chaining_words chain_b.now) (entry_of y.now)) }
 {
     words::to_words(chain_a) == words::to_words(chain_b) && x == y
 }
@@ -155,7 +158,7 @@ fn last_pair(
 ///
 /// The signature is that of `transcript` and `read_transcript`, which allocate memory. This call
 /// allocates none and never fails: it does not look at `_alloc`, and its result is always `Ok`.
-#[tactic(auto, using(crate::proofs::LastDifference::same_number))]
+#[tactic(auto, using(crate::proofs::LastDifference::equal_last_steps_same_count))]
 pub fn witness(
     _alloc: Global,
     a: &Input<'_>,

@@ -34,7 +34,8 @@ fn input_start_rows(input: &Input<'_>, output_size: usize) -> [u32x4; 2]
 
 // The step of an entry, at the chaining words before it.
 fn step_at(chain: &[u32x4; 2], entry: &Entry<64>) -> Step<u32, 64>
-    ensures { step_of result ≡ Transcript.step_at (chaining_words chain.now) (entry_of entry.now) }
+    ensures { step_of result
+        ≡ Transcript.step_of_entry (chaining_words chain.now) (entry_of entry.now) }
 {
     Step {
         chain: words::to_words(chain),
@@ -48,7 +49,8 @@ fn step_at(chain: &[u32x4; 2], entry: &Entry<64>) -> Step<u32, 64>
 // What F returns for that step.
 fn output_of(chain: &[u32x4; 2], entry: &Entry<64>) -> [u32x4; 2]
     ensures { chaining_words result
-        ≡ output blake2s (Transcript.step_at (chaining_words chain.now) (entry_of entry.now)) }
+        ≡ output blake2s
+        (Transcript.step_of_entry (chaining_words chain.now) (entry_of entry.now)) }
 {
     let mut after = *chain;
     let flags = Flags {
@@ -63,7 +65,7 @@ fn output_of(chain: &[u32x4; 2], entry: &Entry<64>) -> [u32x4; 2]
 fn last_step(input: &Input<'_>, output_size: usize) -> ([u32x4; 2], Entry<64>)
     requires accepted { Accepts blake2s (input_of input.now) }
     requires size { output_size ≤ output_bytes blake2s }
-    ensures { Transcript.step_at (chaining_words result.0) (entry_of result.1)
+    ensures { Transcript.step_of_entry (chaining_words result.0) (entry_of result.1)
         ≡ Run.last_step blake2s output_size (input_of input.now) }
 {
     let last = step_count::<64>(input) - 1;
@@ -78,7 +80,8 @@ fn last_step(input: &Input<'_>, output_size: usize) -> ([u32x4; 2], Entry<64>)
 // digest.
 fn bytes_after(chain: &[u32x4; 2], entry: &Entry<64>) -> [u8; 32]
     ensures { result ≡ bytes_of blake2s
-        (output blake2s (Transcript.step_at (chaining_words chain.now) (entry_of entry.now))) }
+        (output blake2s
+        (Transcript.step_of_entry (chaining_words chain.now) (entry_of entry.now))) }
 {
     words::to_bytes(&output_of(chain, entry))
 }
@@ -93,9 +96,9 @@ fn same_digest(
 ) -> bool
     requires size { output_size ≤ output_bytes blake2s }
     ensures { (a b : Hash.Input)
-        → Transcript.step_at (chaining_words chain_a.now) (entry_of x.now)
+        → Transcript.step_of_entry (chaining_words chain_a.now) (entry_of x.now)
         ≡ Run.last_step blake2s output_size a
-        → Transcript.step_at (chaining_words chain_b.now) (entry_of y.now)
+        → Transcript.step_of_entry (chaining_words chain_b.now) (entry_of y.now)
         ≡ Run.last_step blake2s output_size b
         → IsTrue result ↔ (digest blake2s output_size a ≡ digest blake2s output_size b) }
 {
@@ -107,8 +110,8 @@ fn same_digest(
 // Whether the steps of two entries, each at the chaining words before it, are equal.
 fn same_step(chain_a: &[u32x4; 2], x: &Entry<64>, chain_b: &[u32x4; 2], y: &Entry<64>) -> bool
     ensures { IsTrue result
-        ↔ (Transcript.step_at (chaining_words chain_a.now) (entry_of x.now)
-        ≡ Transcript.step_at (chaining_words chain_b.now) (entry_of y.now)) }
+        ↔ (Transcript.step_of_entry (chaining_words chain_a.now) (entry_of x.now)
+        ≡ Transcript.step_of_entry (chaining_words chain_b.now) (entry_of y.now)) }
 {
     words::to_words(chain_a) == words::to_words(chain_b) && x == y
 }
@@ -156,7 +159,7 @@ fn last_pair(
 ///
 /// The signature is that of `transcript` and `read_transcript`, which allocate memory. This call
 /// allocates none and never fails: it does not look at `_alloc`, and its result is always `Ok`.
-#[tactic(auto, using(crate::proofs::LastDifference::same_number))]
+#[tactic(auto, using(crate::proofs::LastDifference::equal_last_steps_same_count))]
 pub fn witness(
     _alloc: Global,
     a: &Input<'_>,

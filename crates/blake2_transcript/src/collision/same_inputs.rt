@@ -2,7 +2,7 @@
 
 ghost use Rattle.std.specs.Prelude.{◌≡◌, ◌↔◌, IsTrue};
 ghost use Rattle.blake2_simd.specs.Family.{Family, salt_bytes};
-ghost use Rattle.blake2_compress.specs.Inputs.{Accepts, Same};
+ghost use Rattle.blake2_compress.specs.Inputs.{Accepts, SameUpToTrailingZeros};
 ghost use Rattle.blake2_compress.specs.Views.{input_of};
 
 use blake2_compress::inputs::Input;
@@ -15,7 +15,7 @@ pub(crate) fn are_same_inputs<const S: usize>(a: &Input<'_>, b: &Input<'_>) -> b
     requires salt { salt_bytes f ≡ S }
     requires a { Accepts f (input_of a.now) }
     requires b { Accepts f (input_of b.now) }
-    ensures { IsTrue result ↔ Same f (input_of a.now) (input_of b.now) }
+    ensures { IsTrue result ↔ SameUpToTrailingZeros f (input_of a.now) (input_of b.now) }
 {
     let same_salts = padded::<S>(a.salt) == padded::<S>(b.salt);
     let same_personas = padded::<S>(a.persona) == padded::<S>(b.persona);

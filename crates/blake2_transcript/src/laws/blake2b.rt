@@ -2,7 +2,7 @@
 
 ghost use Rattle.std.specs.Prelude.{◌≡◌, ◌↔◌, IsTrue};
 ghost use Rattle.blake2_simd.specs.Family.{blake2b};
-ghost use Rattle.blake2_transcript.specs.Transcript.{TranscriptsDetermine};
+ghost use Rattle.blake2_transcript.specs.Transcript.{TranscriptDeterminesInput};
 
 use crate::steps::Transcript;
 
@@ -12,7 +12,7 @@ use crate::steps::Transcript;
 pub fn equal(a: &Transcript<u64, 128>, b: &Transcript<u64, 128>) -> bool
     ensures equal { IsTrue result
         ↔ ((a.now.words ≡ b.now.words) × (a.now.entries.items ≡ b.now.entries.items)) }
-    ensures law { TranscriptsDetermine blake2b }
+    ensures law { TranscriptDeterminesInput blake2b }
 {
     a == b
 }

@@ -3,7 +3,7 @@
 
 ghost use Rattle.std.specs.Prelude.{◌≡◌, ◌↔◌, IsTrue};
 ghost use Rattle.blake2_simd.specs.Family.{blake2s};
-ghost use Rattle.blake2_transcript.specs.Transcript.{TranscriptsDetermine};
+ghost use Rattle.blake2_transcript.specs.Transcript.{TranscriptDeterminesInput};
 
 use crate::steps::Transcript;
 
@@ -13,7 +13,7 @@ use crate::steps::Transcript;
 pub fn equal(a: &Transcript<u32, 64>, b: &Transcript<u32, 64>) -> bool
     ensures equal { IsTrue result
         ↔ ((a.now.words ≡ b.now.words) × (a.now.entries.items ≡ b.now.entries.items)) }
-    ensures law { TranscriptsDetermine blake2s }
+    ensures law { TranscriptDeterminesInput blake2s }
 {
     a == b
 }

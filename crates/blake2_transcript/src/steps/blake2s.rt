@@ -5,10 +5,11 @@ ghost use Rattle.std.specs.Prelude.{◌≡◌, ◌≤◌, ◌↔◌, map, IsTrue
 ghost use Rattle.blake2_simd.specs.Family.{blake2s, output_bytes};
 ghost use Rattle.blake2_compress.specs.Hash.{steps};
 ghost use Rattle.blake2_compress.specs.Inputs.{Accepts};
-ghost use Rattle.blake2_transcript.specs.Transcript.{entry, IsOfSomeInput, IsTranscript, ReadsOnly};
+ghost use Rattle.blake2_transcript.specs.Transcript.{entry, DescribesSomeInput, IsTranscript};
+ghost use Rattle.blake2_transcript.specs.Transcript.{DescribesOnlyThisInput};
 ghost use Rattle.blake2_compress.specs.Views.{input_of, given_parameters};
-ghost use Rattle.blake2_transcript.specs.StepViews.{entries_of, entry_of, reading_of};
-ghost use Rattle.blake2_transcript.specs.Reader.{AreTyped, IsReadable};
+ghost use Rattle.blake2_transcript.specs.StepViews.{entries_of, entry_of, input_of_reading};
+ghost use Rattle.blake2_transcript.specs.Reader.{AreWellFormedEntries, IsReadable};
 
 use super::{Entry, Reading, Transcript, entries, reader};
 use blake2_compress::compress::blake2s::{to_bytes, to_rows};
@@ -41,7 +42,7 @@ pub fn transcript(
 fn is_readable(told: &Parameters<'_>, words: &[u32; 8], entries: &[Entry<64>]) -> bool
     ensures readable { IsTrue result
         ↔ IsReadable blake2s (given_parameters told.now) words.now (map entry_of entries.now) }
-    ensures typed { IsTrue result → AreTyped blake2s (map entry_of entries.now) }
+    ensures typed { IsTrue result → AreWellFormedEntries blake2s (map entry_of entries.now) }
 {
     let key_size = told.key_size;
     params::fits(told)
@@ -59,12 +60,13 @@ pub fn read_transcript(
     transcript: &Transcript<u32, 64>,
 ) -> Result<Option<Reading<8>>, AllocError>
     ensures some { IfOk result
-        (λ r. IsSome r ↔ IsOfSomeInput blake2s transcript.now.words (entries_of transcript.now)) }
+        (λ r. IsSome r ↔ DescribesSomeInput blake2s transcript.now.words
+        (entries_of transcript.now)) }
     ensures reading { IfOk result (λ r. IfSome r (λ x.
-        ReadsOnly blake2s transcript.now.words (entries_of transcript.now)
-        x.output_size (reading_of x))) }
+        DescribesOnlyThisInput blake2s transcript.now.words (entries_of transcript.now)
+        x.output_size (input_of_reading x))) }
     ensures memory { IfErr result
-        (λ _. IsOfSomeInput blake2s transcript.now.words (entries_of transcript.now)) }
+        (λ _. DescribesSomeInput blake2s transcript.now.words (entries_of transcript.now)) }
 {
     let words = &transcript.words;
     let entries = transcript.entries.as_slice();

@@ -6,13 +6,13 @@ ghost use Rattle.std.specs.Prelude.{IfOk, slice_index, EachIndex};
 ghost use Rattle.blake2_simd.specs.Family.{Family, block_bytes, salt_bytes};
 ghost use Rattle.blake2_compress.specs.Hash.{Fits};
 ghost use Rattle.blake2_compress.specs.Views.{given_parameters};
-ghost use Rattle.blake2_transcript.specs.StepViews.{entry_of, items_of, reading_of};
-ghost use Rattle.blake2_transcript.specs.Reader.{AreInner, AreWholeBlocks, EndsRun, HasKey};
-ghost use Rattle.blake2_transcript.specs.Reader.{IsInner};
-ghost use Rattle.blake2_transcript.specs.Reader.{IsRun, IsWhole, IsZeroFrom, described_count};
+ghost use Rattle.blake2_transcript.specs.StepViews.{entry_of, key_bytes_of, input_of_reading};
+ghost use Rattle.blake2_transcript.specs.Reader.{AreInnerEntries, AreWholeBlocks, EndsRun, HasKey};
+ghost use Rattle.blake2_transcript.specs.Reader.{IsInnerEntry};
+ghost use Rattle.blake2_transcript.specs.Reader.{IsRun, HasWholeBlock, IsZeroFrom, described_count};
 ghost use Rattle.blake2_transcript.specs.Reader.{described_data};
 ghost use Rattle.blake2_transcript.specs.Reader.{described_input, described_key, described_message};
-ghost use Rattle.blake2_transcript.specs.Transcript.{joined};
+ghost use Rattle.blake2_transcript.specs.Transcript.{joined_blocks};
 
 use super::{Entry, Reading};
 use blake2_compress::params::Parameters;
@@ -41,8 +41,8 @@ fn is_inner<const B: usize>(entry: Entry<B>, i: u64) -> bool
     ghost f: { Family }
     requires family { block_bytes f ≡ B }
     requires fits { (i + 1) * B < 2 ^ 64 }
-    ensures inner { IsTrue result ↔ IsInner f i (entry_of entry.entry) }
-    ensures whole { IsWhole f (entry_of entry.entry) }
+    ensures inner { IsTrue result ↔ IsInnerEntry f i (entry_of entry.entry) }
+    ensures whole { HasWholeBlock f (entry_of entry.entry) }
 {
     !entry.last && !entry.last_node && entry.counter == (i + 1) * B as u64
 }
@@ -51,7 +51,7 @@ fn is_inner<const B: usize>(entry: Entry<B>, i: u64) -> bool
 fn are_inner<const B: usize>(entries: &[Entry<B>]) -> bool
     ghost f: { Family }
     requires family { block_bytes f ≡ B }
-    ensures inner { IsTrue result ↔ AreInner f (map entry_of entries.now) }
+    ensures inner { IsTrue result ↔ AreInnerEntries f (map entry_of entries.now) }
     ensures whole { IsTrue result → AreWholeBlocks f (map entry_of entries.now) }
 {
     for (i, entry) in entries.iter().enumerate() {
@@ -67,7 +67,7 @@ fn ends_run<const B: usize>(entry: Entry<B>, before: usize) -> bool
     ghost f: { Family }
     requires family { block_bytes f ≡ B }
     ensures ends { IsTrue result ↔ EndsRun f before (entry_of entry.entry) }
-    ensures whole { IsWhole f (entry_of entry.entry) }
+    ensures whole { HasWholeBlock f (entry_of entry.entry) }
 {
     entry.last && (entry.counter.saturating_sub(1) / B as u64) as usize == before
 }
@@ -109,7 +109,7 @@ fn bytes_of_blocks<const B: usize>(
     entries: &[Entry<B>],
     length: usize,
 ) -> Result<Vec<u8>, AllocError>
-    ensures { IfOk result (λ v. v.items ≡ take length (joined (map entry_of entries.now))) }
+    ensures { IfOk result (λ v. v.items ≡ take length (joined_blocks (map entry_of entries.now))) }
 {
     let mut bytes = Vec::with_capacity(alloc, length)?;
     for entry in entries {
@@ -133,7 +133,8 @@ fn key_and_message<const B: usize>(
     requires whole { AreWholeBlocks f (map entry_of entries.now) }
     requires key { 0 < key_size → HasKey f key_size (map entry_of entries.now) }
     ensures key { IfOk result
-        (λ p. items_of p.0 ≡ described_key key_size (described_data (map entry_of entries.now))) }
+        (λ p. key_bytes_of p.0
+        ≡ described_key key_size (described_data (map entry_of entries.now))) }
     ensures message { IfOk result
         (λ p. p.1.items
         ≡ described_message f key_size (described_data (map entry_of entries.now))) }
@@ -162,7 +163,7 @@ pub(crate) fn input_of_entries<const B: usize, const S: usize>(
     requires whole { AreWholeBlocks f (map entry_of entries.now) }
     requires key { 0 < told.now.key_size → HasKey f told.now.key_size (map entry_of entries.now) }
     ensures size { IfOk result (λ x. x.output_size ≡ told.now.output_size) }
-    ensures input { IfOk result (λ x. reading_of x
+    ensures input { IfOk result (λ x. input_of_reading x
         ≡ described_input f (given_parameters told.now) (map entry_of entries.now)) }
 {
     let (key, message) = key_and_message(alloc, entries, told.key_size)?;

@@ -7,7 +7,7 @@ ghost use Rattle.blake2_simd.specs.Lanes.{in_lane};
 ghost use Rattle.blake2_simd.specs.Rows.{chaining_words};
 ghost use Rattle.blake2_compress.specs.Hash;
 ghost use Rattle.blake2_compress.specs.Hash.{padded as filled, start};
-ghost use Rattle.blake2_xof.specs.Blake2xb.{HasRead, IsReadable, length_of, wiped_reader};
+ghost use Rattle.blake2_xof.specs.Blake2xb.{HasRead, IsReadable, output_length_of, wiped_reader};
 ghost use Rattle.blake2_xof.specs.Blake2xb.{output_of};
 ghost use Rattle.blake2_xof.specs.Blake2xb.{settings_of};
 ghost use Rattle.blake2_xof.specs.Xof.{block_parameters, block_size, output_block, output_length};
@@ -97,7 +97,7 @@ impl Reader {
     /// Returns how many bytes are left to read.
     pub fn left(&self) -> u64
         requires { IsReadable self.now }
-        ensures { result ≡ length_of self.now - self.now.position }
+        ensures { result ≡ output_length_of self.now - self.now.position }
     {
         output_length(self.xof_length) - self.position
     }
@@ -175,7 +175,7 @@ impl Reader {
         requires ready { IsReadable self.old }
         requires aligned { self.old.position % 64 ≡ 0 }
         requires long { 256 ≤ length out.old }
-        requires room { self.old.position + length out.old ≤ length_of self.old }
+        requires room { self.old.position + length out.old ≤ output_length_of self.old }
         ensures ready { IsReadable self.new }
         ensures read { HasRead self.old 256 self.new }
         ensures output { out.new ≡ take 256 (drop self.old.position (output_of self.old))
@@ -191,7 +191,7 @@ impl Reader {
     fn read_from_block(&mut self, out: &mut [u8]) -> usize
         requires ready { IsReadable self.old }
         requires some { 0 < length out.old }
-        requires room { self.old.position + length out.old ≤ length_of self.old }
+        requires room { self.old.position + length out.old ≤ output_length_of self.old }
         ensures some { 0 < result }
         ensures within { result ≤ length out.old }
         ensures ready { IsReadable self.new }
@@ -212,7 +212,7 @@ impl Reader {
     fn read_some(&mut self, out: &mut [u8]) -> usize
         requires ready { IsReadable self.old }
         requires some { 0 < length out.old }
-        requires room { self.old.position + length out.old ≤ length_of self.old }
+        requires room { self.old.position + length out.old ≤ output_length_of self.old }
         ensures some { 0 < result }
         ensures within { result ≤ length out.old }
         ensures ready { IsReadable self.new }
@@ -230,7 +230,7 @@ impl Reader {
     /// Reads the next bytes of the output into `out`. No more than `left` returns may be read.
     pub fn read(&mut self, out: &mut [u8])
         requires ready { IsReadable self.old }
-        requires room { self.old.position + length out.old ≤ length_of self.old }
+        requires room { self.old.position + length out.old ≤ output_length_of self.old }
         ensures ready { IsReadable self.new }
         ensures read { HasRead self.old (length out.old) self.new }
         ensures output { out.new

@@ -5,49 +5,49 @@ use Rattle.blake2.specs.MacArguments.{key_count}
 use Rattle.blake2_digest.specs.States.{Fresh}
 use Rattle.blake2_state.specs.Runs.{meaning, padded_digest}
 use Rattle.b2_commands.specs.Kinds.{kind_value}
-use Rattle.b2_commands.specs.ReadOptions.{given_of}
-use Rattle.b2_commands.specs.ArgumentTasks.{Given, Kind}
+use Rattle.b2_commands.specs.ReadOptions.{given_options}
+use Rattle.b2_commands.specs.ArgumentTasks.{GivenOptions, Kind}
 use Rattle.b2_commands.specs.Tasks.{node_digest_with}
-use Rattle.b2_commands.proofs.OutputLaws.{AreGiven, empty_refused}
-use Rattle.b2_commands.proofs.SumLaws.{start_fresh, start_refused}
+use Rattle.b2_commands.proofs.OutputLaws.{ArgumentsMatchOptions, empty_key-is_refused}
+use Rattle.b2_commands.proofs.SumLaws.{Fresh-for_given_options, init_error-iff_refused}
 use Rattle.b2_commands.proofs.digests.start.Goals as goal
 
 pub returns-then-has_empty_key-clause-length : goal.returns-then-has_empty_key-clause-length
 returns-then-has_empty_key-clause-length c =
-    let empty : (given_of c.args.options.now).key ≡ Some [] = search rules in
-    (λ _. rw empty (empty_refused _ _ _), λ _. refl)
+    let empty : (given_options c.args.options.now).key ≡ Some [] = search rules in
+    (λ _. rw empty (empty_key-is_refused _ _ _), λ _. refl)
 
 pub returns-in-Ok-clause-length : goal.returns-in-Ok-clause-length
 returns-in-Ok-clause-length c =
-    let given : Given = given_of c.args.options.now in
-    let are : AreGiven given.key (unwrap_or given.salt []) (unwrap_or given.persona [])
+    let given : GivenOptions = given_options c.args.options.now in
+    let are : ArgumentsMatchOptions given.key (unwrap_or given.salt []) (unwrap_or given.persona [])
     c.key_bytes.result.now c.salt.result.now c.persona.result.now = record {
       key_is = c.key_bytes.ensures;
       salt_is = c.salt.ensures;
       persona_is = c.persona.ensures;
       not_empty = iff_false c.has_empty_key.ensures c.if-has_empty_key.false;
     } in
-    start_refused (kind_value c.args.kind).family c.size.result given.key _ _ _ _ _ _ are
+    init_error-iff_refused (kind_value c.args.kind).family c.size.result given.key _ _ _ _ _ _ are
     c.size.ensures.some c.size.ensures.most c.in-Ok.ensures.refused
 
 pub returns-in-Err-clause-length : goal.returns-in-Err-clause-length
 returns-in-Err-clause-length c =
-    let given : Given = given_of c.args.options.now in
-    let are : AreGiven given.key (unwrap_or given.salt []) (unwrap_or given.persona [])
+    let given : GivenOptions = given_options c.args.options.now in
+    let are : ArgumentsMatchOptions given.key (unwrap_or given.salt []) (unwrap_or given.persona [])
     c.key_bytes.result.now c.salt.result.now c.persona.result.now = record {
       key_is = c.key_bytes.ensures;
       salt_is = c.salt.ensures;
       persona_is = c.persona.ensures;
       not_empty = iff_false c.has_empty_key.ensures c.if-has_empty_key.false;
     } in
-    start_refused (kind_value c.args.kind).family c.size.result given.key _ _ _ _ _ _ are
+    init_error-iff_refused (kind_value c.args.kind).family c.size.result given.key _ _ _ _ _ _ are
     c.size.ensures.some c.size.ensures.most c.in-Err.ensures.refused
 
 pub returns-in-Ok-clause-fresh : goal.returns-in-Ok-clause-fresh
 returns-in-Ok-clause-fresh c =
-    let given : Given = given_of c.args.options.now in
+    let given : GivenOptions = given_options c.args.options.now in
     let kind : Kind = kind_value c.args.kind in
-    let are : AreGiven given.key (unwrap_or given.salt []) (unwrap_or given.persona [])
+    let are : ArgumentsMatchOptions given.key (unwrap_or given.salt []) (unwrap_or given.persona [])
     c.key_bytes.result.now c.salt.result.now c.persona.result.now = record {
       key_is = c.key_bytes.ensures;
       salt_is = c.salt.ensures;
@@ -56,5 +56,5 @@ returns-in-Ok-clause-fresh c =
     } in
     subst (λ n. Fresh meaning (padded_digest (node_digest_with kind.family n given))
     (key_count kind.family given.key) c.in-Ok.run') c.size.ensures.bytes
-    (start_fresh kind.family meaning c.size.result given.key _ _ _ _ _ c.in-Ok.run' are
+    (Fresh-for_given_options kind.family meaning c.size.result given.key _ _ _ _ _ c.in-Ok.run' are
     c.in-Ok.ensures.fresh)

@@ -1,6 +1,6 @@
 use Rattle.std.proofs.Common.{◌≡◌, ◌-◌, ◌∙◌, false, ◌||◌, ap, arith, length, rules, take}
 use Rattle.std.proofs.KnownBytes.{Consumes-trans}
-use Rattle.b2_commands.proofs.FilledBuffers.{take-more}
+use Rattle.b2_commands.proofs.FilledBuffers.{take-after_put_mid}
 use Rattle.b2_commands.proofs.input.fill.Goals as goal
 
 pub filling-preserved : goal.filling-preserved
@@ -15,7 +15,7 @@ filling-preserved g c =
       unfailed = read.fails ∙ ap (λ b. b || false) before.unfailed;
       size = search rules;
       within = search rules;
-      passed = rw (take-more buffer piece at c.in-Ok.count before.within size
+      passed = rw (take-after_put_mid buffer piece at c.in-Ok.count before.within size
           (omega (arith, read.bound.1)))
           (Consumes-trans _ _ _ (take at buffer) (take c.in-Ok.count piece) before.passed
           read.bytes.0);

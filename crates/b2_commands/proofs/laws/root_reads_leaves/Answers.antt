@@ -1,5 +1,5 @@
-use Rattle.b2_commands.proofs.ReadBackLeaves.{root_reads}
+use Rattle.b2_commands.proofs.ReadBackLeaves.{RootReadsLeaves-holds}
 use Rattle.b2_commands.proofs.laws.root_reads_leaves.Goals as goal
 
 pub returns : goal.returns
-returns c = root_reads
+returns c = RootReadsLeaves-holds

@@ -2,7 +2,7 @@ use Rattle.std.proofs.Common.{◌≡◌, ℕ, ◌*◌, List, length, take, sym, 
 use Rattle.std.proofs.lemmas.List.{take_at, length-take-le}
 use Rattle.blake2_tree.specs.LeafRanges.{range_digests}
 use Rattle.blake2_tree.specs.NodeViews.{shared_parameters, node_digest}
-use Rattle.b2_commands.proofs.LeafRuns.{range_digests-one}
+use Rattle.b2_commands.proofs.LeafRuns.{range_digests-single_leaf}
 use Rattle.b2_commands.proofs.leaves.hash_next.Goals as goal
 
 pub returns-clause-digests : goal.returns-clause-digests
@@ -15,7 +15,7 @@ returns-clause-digests c =
     let is : c.hash_leaf.result ≡ node_digest 64 s i 0 false (take l text) = search rules in
     let one : l ≡ 1 * l = omega arith in
     take_at c.copy_from_slice.new.self _ 64 size ∙ c.copy_from_slice.ensures.after ∙ is
-    ∙ sym (range_digests-one s i false (take l text) c.args.nodes.now.some_length
+    ∙ sym (range_digests-single_leaf s i false (take l text) c.args.nodes.now.some_length
     (omega (
       arith,
       c.requires.leaf,

@@ -3,7 +3,7 @@ use Rattle.std.proofs.Common.{rules, arith}
 use Rattle.std.proofs.lemmas.List.{take_rest}
 use Rattle.blake2_tree.specs.LeafRanges.{range_digests}
 use Rattle.blake2_tree.specs.NodeViews.{shared_parameters}
-use Rattle.b2_commands.proofs.LeafRuns.{digests_on, range_digests-one}
+use Rattle.b2_commands.proofs.LeafRuns.{range_digests-split_after_leaves, range_digests-single_leaf}
 use Rattle.b2_commands.proofs.leaves.hash_range.Goals as goal
 
 pub hashing-preserved : goal.hashing-preserved
@@ -21,7 +21,8 @@ hashing-preserved c =
     record {
       place = search rules;
       joined = (λ i. pushed i ++ range_digests s (first + k) ends (take_rest rest m i))
-          ∙ digests_on s first k m ends rest digests d _ c.args.nodes.now.some_length next.some
+          ∙ range_digests-split_after_leaves s first k m ends rest digests d _
+          c.args.nodes.now.some_length next.some
           (ap (λ n. k * n) (sym c.requires.leaf)) next.more next.digests
           c.hashing.invariant.joined;
     }
@@ -36,7 +37,7 @@ returns c =
     let short : length rest ≤ s.leaf_length =
     omega (arith, c.requires.leaf, c.hashing-test.false) in
     let last : range_digests s first ends rest ≡ c.hash_leaf.result =
-    range_digests-one s first ends rest c.args.nodes.now.some_length short
+    range_digests-single_leaf s first ends rest c.args.nodes.now.some_length short
     ∙ sym c.hash_leaf.ensures in
     let pushed : c.extend_from_slice-2.new.self.items ≡ digests ++ c.hash_leaf.result =
     search rules in

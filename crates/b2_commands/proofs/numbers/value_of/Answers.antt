@@ -8,20 +8,29 @@ use Rattle.std.specs.Char.{digit_value, is_ascii_digit}
 use Rattle.b2_commands.proofs.numbers.value_of.Goals as goal
 
 -- The number of fewer than 18 digits.
-small : (i number : ℕ) → i < 18 → number < 10 ^ i → number < 10 ^ 17
-small i number few below =
+number-below_10_pow_17 : (i number : ℕ) → i < 18 → number < 10 ^ i → number < 10 ^ 17
+number-below_10_pow_17 i number few below =
     let most : 10 ^ i ≤ 10 ^ 17 = pow-le-pow_right {n = 10} (omega arith) {i = i} {j = 17} (omega arith) in
     omega arith
 
 pub overflow_mul-number : goal.overflow_mul-number
 overflow_mul-number c =
     let i = c.loop-digit.digit-index in
-    omega (arith, small i c.loop-digit.number (omega arith) c.loop-digit.invariant.below)
+    omega (
+      arith,
+      number-below_10_pow_17 i c.loop-digit.number (omega arith)
+          c.loop-digit.invariant.below,
+    )
 
 pub overflow_add-number : goal.overflow_add-number
 overflow_add-number c =
     let i = c.loop-digit.digit-index in
-    grind (arith, nat_tests, small i c.loop-digit.number (omega arith) c.loop-digit.invariant.below)
+    grind (
+      arith,
+      nat_tests,
+      number-below_10_pow_17 i c.loop-digit.number (omega arith)
+          c.loop-digit.invariant.below,
+    )
 
 pub loop-digit-preserved : goal.loop-digit-preserved
 loop-digit-preserved c =

@@ -1,6 +1,6 @@
 use Rattle.std.proofs.Common.{◌++◌, rules, take}
 use Rattle.std.proofs.KnownBytes.{Consumes-trans}
-use Rattle.b2_commands.proofs.FilledBuffers.{Took-trans}
+use Rattle.b2_commands.proofs.FilledBuffers.{HasAbsorbed-trans}
 use Rattle.b2_commands.proofs.tree.absorb_source.Goals as goal
 
 pub pieces-preserved : goal.pieces-preserved
@@ -13,7 +13,7 @@ pieces-preserved g c =
       taken = (
         before.taken.0 ++ piece,
         Consumes-trans _ _ _ before.taken.0 piece before.taken.1 c.in_ok-filled.ensures.bytes,
-        Took-trans c.args.hasher.now c.pieces.hasher c.update.new.self before.taken.0 piece
+        HasAbsorbed-trans c.args.hasher.now c.pieces.hasher c.update.new.self before.taken.0 piece
             before.taken.2 c.update.ensures,
       );
     }

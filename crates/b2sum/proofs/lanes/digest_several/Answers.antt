@@ -2,8 +2,8 @@ use Rattle.std.proofs.Common.{◌≡◌, ◌<◌, ◌≤◌, ◌+◌, ◌∙◌,
 use Rattle.std.proofs.Common.{length, map, refl, slice_index_or, slice_set, subst, sym}
 use Rattle.std.proofs.lemmas.List.{get_or-map, get_or-set_other, get_or-set_same, length-map, length-set}
 use Rattle.b2sum.specs.declared.lanes.Lane.{Lane}
-use Rattle.b2sum.specs.LaneStates.{IsAt, IsDone, IsInText}
-use Rattle.b2sum.proofs.LaneStates.{begun_after, same_or_other}
+use Rattle.b2sum.specs.LaneStates.{StateIsAtOffset, DigestIsWritten, LaneIsInText}
+use Rattle.b2sum.proofs.LaneStates.{texts_done_or_in_lanes-after_finish, equal_or_not_equal}
 use Rattle.b2sum.proofs.lanes.digest_several.Goals as goal
 
 pub loop-next-init : goal.loop-next-init
@@ -64,29 +64,33 @@ loop-next-preserved g c =
     let set = λ (x : Lane). get_or-set_same lanes lane here x long in
     let kept = λ (k : ℕ) (x : Lane) (other : k ≡ lane → ⊥).
     get_or-set_other lanes lane k here x (λ e. other (omega (arith, e))) in
-    let At : ℕ → List ℕ → g.row.H.Denot → Type 0 = IsAt g.H.Absorb.IsReady g.H.Absorb.size
+    let At : ℕ → List ℕ → g.row.H.Denot
+    → Type 0 = StateIsAtOffset g.H.Absorb.IsReady g.H.Absorb.size
     g.H.Absorb.count g.H.Absorb.limit g.H.Absorb.future n digest in
     let In : Lane → g.row.H.Denot → Type 0 = λ l. At l.at (slice_index_or texts l.text []) in
     let text = get_or-map {Y = List ℕ} bytes c.args.texts.now next
     (record { ref_ptr = (0, 0); now = [] }) [] c.loop-next-test.true in
     let started = subst (λ (t : List ℕ). At 0 t state) (sym text) (c.if-not-start.ensures.started refl) in
     let after : List Lane = slice_set lanes lane here in
-    let Begun : ℕ → Type 0 = λ t. IsDone digest n (slice_index_or texts t []) (slice_index_or c.finish.new.out t [])
+    let Begun : ℕ
+    → Type 0 = λ t. DigestIsWritten digest n (slice_index_or texts t [])
+    (slice_index_or c.finish.new.out t [])
     ⊎ ((j : ℕ) × (l : Lane) × (0 ≤ j) × (j < count) × ((slice_index_or after j l).text ≡ t)) in
-    let begun = begun_after digest n texts c.loop-next.out c.finish.new.out c.loop-next.lanes after 0 count 0
+    let begun = texts_done_or_in_lanes-after_finish digest n texts c.loop-next.out c.finish.new.out
+    c.loop-next.lanes after 0 count 0
     next lane none (omega (arith, few, before.lanes)) before.begun (done.done none) (λ t. done.others t none)
     (λ j x le lt other. (omega arith, ap (λ (l : Lane). l.text) (kept j x other) ∙ done.texts j x lt)) in
     record {
       number = length-set states lane state ∙ c.finish.auto.states ∙ before.number;
       lanes = length-set lanes lane here ∙ c.finish.auto.lanes ∙ before.lanes;
       out = c.finish.auto.out ∙ before.out;
-      within = λ k x lt. elim (same_or_other k lane) [
-        | inl same ↦ subst (λ (i : ℕ). IsInText texts (slice_index_or after i x)) (sym same)
-            (subst (IsInText texts) (sym (set x))
+      within = λ k x lt. elim (equal_or_not_equal k lane) [
+        | inl same ↦ subst (λ (i : ℕ). LaneIsInText texts (slice_index_or after i x)) (sym same)
+            (subst (LaneIsInText texts) (sym (set x))
             (omega (arith, length-map c.args.texts.now bytes, c.loop-next-test.true), omega arith))
-        | inr other ↦ subst (IsInText texts) (sym (kept k x other)) (done.within k x lt)
+        | inr other ↦ subst (LaneIsInText texts) (sym (kept k x other)) (done.within k x lt)
       ];
-      states = λ k x s lt. elim (same_or_other k lane) [
+      states = λ k x s lt. elim (equal_or_not_equal k lane) [
         | inl same ↦ subst (λ (i : ℕ). In (slice_index_or after i x)
             (slice_index_or (slice_set states lane state) i s)) (sym same)
             (subst (λ l. In l (slice_index_or (slice_set states lane state) lane s)) (sym (set x))

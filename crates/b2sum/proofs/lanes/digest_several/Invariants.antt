@@ -1,6 +1,6 @@
 use Rattle.std.proofs.Common.{◌≡◌, ◌<◌, ℕ, length, map, slice_index_or}
 use Rattle.b2sum.specs.declared.lanes.Lane.{Lane}
-use Rattle.b2sum.specs.LaneStates.{AreBegun, IsIn, IsInText}
+use Rattle.b2sum.specs.LaneStates.{TextsAreDoneOrInLanes, StateIsAtLane, LaneIsInText}
 use Rattle.b2sum.proofs.lanes.digest_several.Given as goal
 
 abbrev pub invariant-loop-next : goal.invariant-loop-next
@@ -9,10 +9,12 @@ invariant-loop-next g l = record {
   lanes : length l.lanes ≡ 8;
   out : length l.out ≡ length l.texts;
   within : (k : ℕ) (x : Lane) → k < l.count
-      → IsInText (map (λ t. t.now) l.texts) (slice_index_or l.lanes k x);
-  states : (k : ℕ) (x : Lane) (s : g.row.H.Denot) → k < l.count → IsIn g.H.Absorb.IsReady g.H.Absorb.size g.H.Absorb.count
+      → LaneIsInText (map (λ t. t.now) l.texts) (slice_index_or l.lanes k x);
+  states : (k : ℕ) (x : Lane) (s : g.row.H.Denot) → k < l.count
+      → StateIsAtLane g.H.Absorb.IsReady g.H.Absorb.size g.H.Absorb.count
       g.H.Absorb.limit g.H.Absorb.future l.given.output_size (g.H.HashState.digest l.given)
       (map (λ t. t.now) l.texts) (slice_index_or l.lanes k x) (slice_index_or l.states k s);
-  begun : AreBegun (g.H.HashState.digest l.given) l.given.output_size (map (λ t. t.now) l.texts)
+  begun : TextsAreDoneOrInLanes (g.H.HashState.digest l.given) l.given.output_size
+      (map (λ t. t.now) l.texts)
       l.out l.lanes 0 l.count l.next;
 }

@@ -2,8 +2,8 @@ use Rattle.std.proofs.Common.{◌≡◌, ◌∙◌, ℕ, List, [], Bor, ap, arit
 use Rattle.std.proofs.Common.{slice_index_or, subst}
 use Rattle.std.proofs.lemmas.List.{get_or_default, length-drop, length-map, length-take}
 use Rattle.b2sum.specs.declared.lanes.Lane.{Lane}
-use Rattle.b2sum.specs.LaneStates.{IsAt, IsDone}
-use Rattle.b2sum.proofs.LaneStates.{done_at_end}
+use Rattle.b2sum.specs.LaneStates.{StateIsAtOffset, DigestIsWritten}
+use Rattle.b2sum.proofs.LaneStates.{digest_written-at_text_end}
 use Rattle.b2sum.proofs.lanes.finish.Goals as goal
 
 pub bytes_left-most-requires : goal.bytes_left-most-requires
@@ -43,7 +43,8 @@ returns-clause-done g c l =
     let s = slice_index_or c.go_on.new.states lane c.index-states-lane.result in
     let digest = g.H.HashState.digest c.args.given.now in
     let n : ℕ = c.args.given.now.output_size in
-    let At : ℕ → List ℕ → g.row.H.Denot → Type 0 = IsAt g.H.Absorb.IsReady g.H.Absorb.size
+    let At : ℕ → List ℕ → g.row.H.Denot
+    → Type 0 = StateIsAtOffset g.H.Absorb.IsReady g.H.Absorb.size
     g.H.Absorb.count g.H.Absorb.limit g.H.Absorb.future n digest in
     let moved = c.go_on.ensures.lanes lane none c.requires.few.1 in
     let is = subst (λ (x : Lane). At x.at (slice_index_or texts x.text []) s) moved
@@ -52,7 +53,8 @@ returns-clause-done g c l =
     let here : take (g.H.Absorb.size s) (slice_index_or out old.text []) ≡ g.H.Absorb.future s [] =
     subst (λ (x : Lane). take (g.H.Absorb.size s) (slice_index_or out x.text [])
     ≡ g.H.Absorb.future s []) moved c.put_digest.ensures.here in
-    let done = done_at_end g.H.Absorb.IsReady g.H.Absorb.size g.H.Absorb.count g.H.Absorb.limit
+    let done = digest_written-at_text_end g.H.Absorb.IsReady g.H.Absorb.size g.H.Absorb.count
+    g.H.Absorb.limit
     g.H.Absorb.future n digest _ text (slice_index_or out old.text []) s is (omega (
       arith,
       c.bytes_left-most.ensures,
@@ -60,7 +62,8 @@ returns-clause-done g c l =
       length-drop old.at text,
       (c.requires.within lane none c.requires.few.1).1,
     )) here in
-    subst (λ (x : Lane). IsDone digest n (slice_index_or texts x.text []) (slice_index_or out x.text []))
+    subst (λ (x : Lane). DigestIsWritten digest n (slice_index_or texts x.text [])
+    (slice_index_or out x.text []))
     (get_or_default c.args.lanes.now lane none l
     (omega (arith, c.requires.few.0, c.requires.few.1, c.requires.number.1))) done
 

@@ -1,7 +1,7 @@
 use Rattle.std.proofs.Common.{◌≡◌, ◌≤◌, ◌+◌, ◌∙◌, ℕ, List, Bor, arith, inl, inr, length, map}
 use Rattle.std.proofs.lemmas.Bool.{cases_lt}
 use Rattle.b2sum.specs.declared.lanes.Lane.{Lane}
-use Rattle.b2sum.proofs.LaneStates.{begun_after}
+use Rattle.b2sum.proofs.LaneStates.{texts_done_or_in_lanes-after_finish}
 use Rattle.b2sum.proofs.lanes.finish_all.Goals as goal
 
 pub loop-lane-preserved : goal.loop-lane-preserved
@@ -21,7 +21,8 @@ loop-lane-preserved g c =
       out = c.finish.auto.out ∙ before.out;
       within = done.within;
       states = done.states;
-      begun = begun_after (g.H.HashState.digest c.args.given.now) c.args.given.now.output_size
+      begun = texts_done_or_in_lanes-after_finish (g.H.HashState.digest c.args.given.now)
+          c.args.given.now.output_size
           (map {A = Bor (List ℕ)} {B = List ℕ} (λ t. t.now) c.args.texts.now) c.loop-lane.out
           c.finish.new.out c.loop-lane.lanes c.finish.new.lanes lane c.args.count (lane + 1)
           (length c.args.texts.now) lane none

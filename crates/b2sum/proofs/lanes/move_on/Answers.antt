@@ -1,7 +1,7 @@
 use Rattle.std.proofs.Common.{◌≡◌, ◌<◌, ◌∙◌, ℕ, length, List, Bor, ap, arith, below_more, map, slice_index_or, slice_set}
 use Rattle.std.proofs.lemmas.List.{get_or_default, get_or-set_other, get_or-set_same, length-set}
 use Rattle.b2sum.specs.declared.lanes.Lane.{Lane}
-use Rattle.b2sum.specs.LaneStates.{place_after}
+use Rattle.b2sum.specs.LaneStates.{lane_after_piece}
 use Rattle.b2sum.proofs.lanes.move_on.Goals as goal
 
 pub loop-j-preserved : goal.loop-j-preserved
@@ -12,7 +12,8 @@ loop-j-preserved c =
     let lane : Lane = record { text = (slice_index_or old j none).text; at = c.end_of.result } in
     let before = c.loop-j.invariant in
     let After : Lane → Lane =
-    place_after (map {A = Bor (List ℕ)} {B = List ℕ} (λ t. t.now) c.args.texts.now) c.args.most in
+    lane_after_piece (map {A = Bor (List ℕ)} {B = List ℕ} (λ t. t.now) c.args.texts.now) c.args.most
+    in
     let long : j < length old = omega (arith, before.number, c.loop-j-test.true, c.requires.few) in
     record {
       number = length-set old j lane ∙ before.number;

@@ -1,10 +1,10 @@
 use Rattle.std.proofs.Common.{◌≡◌, ℕ, List, [], ap, arith, map, slice_index_or, slice_set}
 use Rattle.std.proofs.Common.{Bor, below_more, ◌∙◌}
 use Rattle.std.proofs.lemmas.List.{get_or_default, get_or-set_other, get_or-set_same, length-map, length-set, map-set}
-use Rattle.blake2_state.specs.SeveralStates.{piece_at}
+use Rattle.blake2_state.specs.SeveralStates.{input_bytes_at}
 use Rattle.blake2_state.specs.declared.many.Text.{Text}
 use Rattle.b2sum.specs.declared.lanes.Lane.{Lane}
-use Rattle.b2sum.specs.LaneStates.{piece_after}
+use Rattle.b2sum.specs.LaneStates.{next_piece_of_lane}
 use Rattle.b2sum.proofs.lanes.pieces_of.Goals as goal
 
 pub loop-j-preserved : goal.loop-j-preserved
@@ -16,8 +16,9 @@ loop-j-preserved c =
     let piece : Text = record { bytes = c.piece_of.result } in
     let new = slice_set pieces j piece in
     let set = map-set bytes pieces j piece in
-    let After : Lane → List ℕ = piece_after (map {A = Bor (List ℕ)} {B = List ℕ} (λ t. t.now) c.args.texts.now) c.args.most in
-    let Is : ℕ → Type 0 = λ k. (x : Lane) → piece_at new k ≡ After (slice_index_or lanes k x) in
+    let After : Lane → List ℕ = next_piece_of_lane (map {A = Bor (List ℕ)} {B = List ℕ} (λ t. t.now) c.args.texts.now) c.args.most in
+    let Is : ℕ → Type 0 = λ k. (x : Lane) → input_bytes_at new k
+    ≡ After (slice_index_or lanes k x) in
     let each = below_more Is j
     (λ k low x. ap (λ (l : List (List ℕ)). slice_index_or l k []) set
     ∙ get_or-set_other (map bytes pieces) j k c.piece_of.result.now []

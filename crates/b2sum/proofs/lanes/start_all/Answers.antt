@@ -2,7 +2,7 @@ use Rattle.std.proofs.Common.{◌≡◌, ◌<◌, ◌≤◌, ◌+◌, ◌∙◌,
 use Rattle.std.proofs.Common.{slice_index_or, slice_set, subst, sym, inl, inr, ap}
 use Rattle.std.proofs.lemmas.List.{get_or-map, get_or-set_other, get_or-set_same, length-map, length-set}
 use Rattle.b2sum.specs.declared.lanes.Lane.{Lane}
-use Rattle.b2sum.specs.LaneStates.{IsAt, IsInText}
+use Rattle.b2sum.specs.LaneStates.{StateIsAtOffset, LaneIsInText}
 use Rattle.b2sum.proofs.lanes.start_all.Goals as goal
 
 pub returns-then-not-start-clause-refused : goal.returns-then-not-start-clause-refused
@@ -34,7 +34,8 @@ loop-j-preserved g c =
     let text = get_or-map {Y = List ℕ} bytes texts j (record { ref_ptr = (0, 0); now = [] }) [] lt in
     let lane : Lane = record { text = j; at = 0 } in
     let state = c.start.new.state in
-    let At : ℕ → List ℕ → g.row.H.Denot → Type 0 = IsAt g.H.Absorb.IsReady g.H.Absorb.size
+    let At : ℕ → List ℕ → g.row.H.Denot
+    → Type 0 = StateIsAtOffset g.H.Absorb.IsReady g.H.Absorb.size
     g.H.Absorb.count g.H.Absorb.limit g.H.Absorb.future c.args.given.now.output_size
     (g.H.HashState.digest c.args.given.now) in
     let In : Lane → g.row.H.Denot → Type 0 =
@@ -51,9 +52,10 @@ loop-j-preserved g c =
           (λ k low x. ap (λ (l : Lane). l.text) (there k x low) ∙ before.texts k x low)
           (λ x. ap (λ (l : Lane). l.text) (here x)) k lt x;
       within = λ k x lt. below_more
-          (λ k. (x : Lane) → IsInText (map bytes texts) (slice_index_or new k x)) j
-          (λ k low x. subst (IsInText (map bytes texts)) (sym (there k x low)) (before.within k x low))
-          (λ x. subst (IsInText (map bytes texts)) (sym (here x))
+          (λ k. (x : Lane) → LaneIsInText (map bytes texts) (slice_index_or new k x)) j
+          (λ k low x. subst (LaneIsInText (map bytes texts)) (sym (there k x low))
+          (before.within k x low))
+          (λ x. subst (LaneIsInText (map bytes texts)) (sym (here x))
           (omega (arith, length-map texts bytes, lt), omega arith)) k lt x;
       states = λ k x s lt. below_more (λ k. (x : Lane) (s : g.row.H.Denot)
           → In (slice_index_or new k x) (slice_index_or (slice_set states j state) k s)) j

@@ -1,7 +1,7 @@
 use Rattle.std.proofs.Common.{◌≡◌, ◌≤◌, ◌-◌, ℕ, List, length, take, drop, arith, ap, sym, subst, ◌∙◌}
 use Rattle.std.proofs.lemmas.List.Elements.{All-weaker}
-use Rattle.b2sum_commands.specs.ReadAhead.{HasText, IsTextOf}
-use Rattle.b2sum_commands.proofs.FilesAhead.{all_pushed, kept_text}
+use Rattle.b2sum_commands.specs.ReadAhead.{PartHasFileText, FileHasText}
+use Rattle.b2sum_commands.proofs.FilesAhead.{all-pushed_if_memory, file_text-kept_by_equal_prefix}
 use Rattle.b2sum_commands.proofs.ahead.read_parts.Goals as goal
 use Rattle.b2sum_commands.proofs.ahead.read_parts.Goals.{else-loop-name-test, then-loop-name-test+then-len-most, then-len-most-via-then-len-most, then-len-most-via-else-len-most+then-is_enough, then-loop-name-test+else-len-most+else-is_enough+in_default}
 
@@ -15,14 +15,16 @@ loop-name-preserved g c =
     ∙ sym c.as_slice.ensures.value in
     record {
       place = text.1;
-      parts = all_pushed (HasText files room end) c.loop-name.parts.items _ _ _
+      parts = all-pushed_if_memory (PartHasFileText files room end) c.loop-name.parts.items _ _ _
           c.push.ensures.items
-          (All-weaker (HasText files c.loop-name.room c.loop-name.at) (HasText files room end)
-          (kept_text files room c.loop-name.room c.loop-name.at end c.in-Some.ensures.before text.0)
+          (All-weaker (PartHasFileText files c.loop-name.room c.loop-name.at)
+          (PartHasFileText files room end)
+          (file_text-kept_by_equal_prefix files room c.loop-name.room c.loop-name.at end
+          c.in-Some.ensures.before text.0)
           c.loop-name.parts.items c.loop-name.invariant.parts) (
             text.0,
             omega arith,
-            subst (λ (n : List ℕ). IsTextOf files n
+            subst (λ (n : List ℕ). FileHasText files n
                 (take (end - c.loop-name.at) (drop c.loop-name.at room))) (sym name) text.2,
           );
     }
@@ -34,8 +36,9 @@ returns g c =
     let at = c.loop-name.at in
     let le : at ≤ length new = omega (arith, c.loop-name.invariant.place, c.loop-name-test.auto.room) in
     let all = λ (same : take at new ≡ take at c.loop-name.room).
-    All-weaker (HasText files c.loop-name.room at) (HasText files new (length new))
-    (kept_text files new c.loop-name.room at (length new) same le) c.loop-name.parts.items
+    All-weaker (PartHasFileText files c.loop-name.room at) (PartHasFileText files new (length new))
+    (file_text-kept_by_equal_prefix files new c.loop-name.room at (length new) same le)
+    c.loop-name.parts.items
     c.loop-name.invariant.parts in
     elim c.loop-name-test.branch [
       | else-loop-name-test w ↦ all (ap (take at) w.room-is)

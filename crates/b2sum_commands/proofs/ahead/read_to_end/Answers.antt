@@ -2,7 +2,7 @@ use Rattle.std.proofs.Common.{◌≡◌, ℕ, ◌-◌, ◌≤◌, List, length, 
 use Rattle.std.proofs.lemmas.List.{length-drop, length-take}
 use Rattle.std.proofs.KnownBytes.{Consumes-trans}
 use Rattle.std.specs.Io.KnownBytes.{Consumes}
-use Rattle.b2sum_commands.proofs.FilesAhead.{length_written, take_written}
+use Rattle.b2sum_commands.proofs.FilesAhead.{put_mid-keeps_length, take-of_put_mid}
 use Rattle.b2sum_commands.proofs.ahead.read_to_end.Goals as goal
 
 pub reading-preserved : goal.reading-preserved
@@ -18,13 +18,14 @@ reading-preserved g c =
     ) in
     let within : c.in-Ok.more ≤ length c.read.new.buf =
     omega (arith, read.bound.1, length-take c.in-Ok.more c.read.new.buf) in
-    let same = length_written out c.read.new.buf c.reading.count before.bound fits in
+    let same = put_mid-keeps_length out c.read.new.buf c.reading.count before.bound fits in
     record {
       bound = omega (arith, same, before.bound, within, fits);
       room = same ∙ before.room;
       given = subst (λ (l : List ℕ). Consumes (g.S.OpenFile.left c.args.source.now)
           (g.S.OpenFile.left c.read.new.self) l)
-          (sym (take_written c.reading.out c.read.new.buf c.reading.count c.in-Ok.more before.bound
+          (sym (take-of_put_mid c.reading.out c.read.new.buf c.reading.count c.in-Ok.more
+          before.bound
           within))
           (Consumes-trans _ _ _ (take c.reading.count c.reading.out)
           (take c.in-Ok.more c.read.new.buf) before.given read.bytes.0);

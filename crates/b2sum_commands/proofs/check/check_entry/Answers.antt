@@ -2,10 +2,10 @@ use Rattle.std.proofs.Common.{◌≡◌, ℕ, List, Option, Result, Ok, length, 
 use Rattle.std.proofs.Common.{rules}
 use Rattle.b2sum_lines.specs.EntryViews.{entry_value}
 use Rattle.b2sum_lines.specs.ManifestLines.{Line}
-use Rattle.b2sum_commands.specs.World.{world_of, Streams, StopsIn}
-use Rattle.b2sum_commands.specs.Manifests.{IsVerdict, verdict_lines}
+use Rattle.b2sum_commands.specs.World.{world_of, Streams, AcceptsNothingOrPart}
+use Rattle.b2sum_commands.specs.Manifests.{VerdictIsRight, verdict_lines}
 use Rattle.b2sum_commands.specs.declared.check.Verdict.{Verdict}
-use Rattle.b2sum_commands.proofs.EndedByErrors.{verdict_stops}
+use Rattle.b2sum_commands.proofs.EndedByErrors.{stops_in_verdict-if_write_stops}
 use Rattle.b2sum_commands.proofs.check.check_entry.Goals as goal
 
 pub returns-in_err-print_verdict-clause-begun : goal.returns-in_err-print_verdict-clause-begun
@@ -25,14 +25,15 @@ returns-in_err-print_verdict-clause-begun g c = λ error.
       left = g.D.File.OpenFile.left c.session.inside.input;
       held = g.K.Sink.held c.print_verdict.new.output;
     } in
-    let right : IsVerdict w o old.left i v found new.left =
-    subst (λ (s : Streams). IsVerdict w o old.left i v found s.left) (sym c.session.view_is)
+    let right : VerdictIsRight w o old.left i v found new.left =
+    subst (λ (s : Streams). VerdictIsRight w o old.left i v found s.left) (sym c.session.view_is)
     c.in_ok-verdict.ensures.verdict in
     let same : begun ≡ old.held =
     ap (λ (s : Streams). s.held) c.session.view_is ∙ c.in_ok-verdict.ensures.output.held in
     let whole : c.len.result ≡ length c.args.entry.now.digest.items = search rules in
-    let part : StopsIn begun new.held (verdict_lines o i v found) =
-    subst (λ (n : ℕ). StopsIn begun new.held (verdict_lines o i v (take n out))) whole
+    let part : AcceptsNothingOrPart begun new.held (verdict_lines o i v found) =
+    subst (λ (n : ℕ). AcceptsNothingOrPart begun new.held (verdict_lines o i v (take n out))) whole
     c.in_err-print_verdict.ensures.part in
-    verdict_stops w o i old new v found right
-    (subst (λ (h : Option (List ℕ)). StopsIn h new.held (verdict_lines o i v found)) same part)
+    stops_in_verdict-if_write_stops w o i old new v found right
+    (subst (λ (h : Option (List ℕ)). AcceptsNothingOrPart h new.held (verdict_lines o i v found))
+    same part)

@@ -1,31 +1,34 @@
 use Rattle.std.proofs.Common.{Bool, ◌&&◌, [], ◌∷◌, ◌++◌, refl, ap, ◌∙◌, sym, arith}
-use Rattle.b2sum_commands.proofs.OneMore.{all_more}
-use Rattle.b2sum_commands.proofs.EndedByErrors.{stops}
-use Rattle.b2sum_commands.proofs.DoneInTurn.{sofar_start, name_step, name_stops, names_end}
+use Rattle.b2sum_commands.proofs.OneMore.{list_all-append}
+use Rattle.b2sum_commands.proofs.EndedByErrors.{result_ok-none_after_error}
+use Rattle.b2sum_commands.proofs.DoneInTurn.{done_so_far-start, done_so_far-next_name}
+use Rattle.b2sum_commands.proofs.DoneInTurn.{stopped_in_turn-at_next_name, done_so_far-all_names}
 use Rattle.b2sum_commands.proofs.DoneInTurn.{items_of}
-use Rattle.b2sum_commands.specs.World.{world_of, AllInTurn, Ends, Stops}
-use Rattle.b2sum_commands.specs.SealedLists.{IsCheckedBy}
+use Rattle.b2sum_commands.specs.World.{world_of, NamesAreDoneInTurn, EndsWithResult}
+use Rattle.b2sum_commands.specs.World.{StopsWithoutResult}
+use Rattle.b2sum_commands.specs.SealedLists.{FileIsCheckedByOptions}
 use Rattle.b2sum_commands.proofs.check.check_manifests.Goals as goal
 
 pub loop-name-init : goal.loop-name-init
-loop-name-init g c = ([], sofar_start _ _ _, refl)
+loop-name-init g c = ([], done_so_far-start _ _ _, refl)
 
 pub loop-name-preserved : goal.loop-name-preserved
 loop-name-preserved g c =
     let before = c.loop-name.invariant in
     let one : Bool = c.in_ok-holds.holds in (
       before.0 ++ (one ∷ []),
-      name_step _ c.args.names.now _ c.loop-name.name-index c.name-item.result c.as_slice.result.now
+      done_so_far-next_name _ c.args.names.now _ c.loop-name.name-index c.name-item.result
+          c.as_slice.result.now
           c.loop-name.session c.check_list.new.session before.0 one c.loop-name-test.true c.name-item.is
           c.as_slice.ensures.value before.1 c.in_ok-holds.ensures.checked,
-      ap (λ b. b && one) before.2 ∙ sym (all_more (λ well. well) before.0 one),
+      ap (λ b. b && one) before.2 ∙ sym (list_all-append (λ well. well) before.0 one),
     )
 
 pub returns-clause-checked : goal.returns-clause-checked
 returns-clause-checked g c =
     let before = c.loop-name.invariant in (
       before.0,
-      names_end _ c.args.names.now _ c.loop-name.name-index c.loop-name.session before.0
+      done_so_far-all_names _ c.args.names.now _ c.loop-name.name-index c.loop-name.session before.0
           (omega (arith, c.loop-name-test.false)) before.1,
       before.2,
     )
@@ -36,12 +39,14 @@ returns-in_err-holds-clause-checked g c =
     g.D.File.OpenFile.named g.D.File.OpenFile.failed
     g.D.File.OpenFile.failure (g.D.Disk.files c.args.host.now.disk)
     g.H.Hashes.hashing in
-    let does = IsCheckedBy w c.args.options.now in
+    let does = FileIsCheckedByOptions w c.args.options.now in
     let names = c.args.names.now in
     let before = c.loop-name.invariant in
-    stops (AllInTurn does (items_of names) c.args.session.now c.check_list.new.session)
+    result_ok-none_after_error
+    (NamesAreDoneInTurn does (items_of names) c.args.session.now c.check_list.new.session)
     c.from_residual.result _ c.from_residual.ensures.1
-    (name_stops (Ends does) (Stops does) names c.args.session.now c.loop-name.name-index
+    (stopped_in_turn-at_next_name (EndsWithResult does) (StopsWithoutResult does) names
+    c.args.session.now c.loop-name.name-index
     c.name-item.result c.as_slice.result.now c.loop-name.session c.check_list.new.session before.0
     c.loop-name-test.true c.name-item.is c.as_slice.ensures.value before.1
     c.in_err-holds.ensures.checked)

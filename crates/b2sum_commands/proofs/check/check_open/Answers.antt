@@ -1,9 +1,10 @@
 use Rattle.std.proofs.Common.{IfOk, ap, refl, subst}
-use Rattle.b2sum_commands.specs.ManifestChecks.{GoesOn}
-use Rattle.b2sum_commands.specs.Reports.{TellsEnd}
+use Rattle.b2sum_commands.specs.ManifestChecks.{ManifestIsCheckedFromHere}
+use Rattle.b2sum_commands.specs.Reports.{TellsManifestEnd}
 use Rattle.b2sum_commands.specs.World.{Streams, TellsText, world_of}
-use Rattle.b2sum_commands.proofs.EndedByErrors.{stops}
-use Rattle.b2sum_commands.proofs.OpenedManifests.{opened_goes_on, opened_stops}
+use Rattle.b2sum_commands.proofs.EndedByErrors.{result_ok-none_after_error}
+use Rattle.b2sum_commands.proofs.OpenedManifests.{open_manifest-is_checked}
+use Rattle.b2sum_commands.proofs.OpenedManifests.{open_manifest-check_stopped}
 use Rattle.b2sum_commands.proofs.check.check_open.Goals as goal
 
 pub check_lines-requires : goal.check_lines-requires
@@ -26,10 +27,11 @@ returns-clause-checked g c =
     let r = c.end_manifest.result in
     let last = ap (λ (s : Streams). record s { told = new.told; messages_failed = new.messages_failed })
     c.session.view_is in
-    opened_goes_on g.D.File.OpenFile.named g.D.File.OpenFile.left c.args.manifest.file
+    open_manifest-is_checked g.D.File.OpenFile.named g.D.File.OpenFile.left c.args.manifest.file
     c.check_lines.new.manifest.file _ w o name c.args.session.now mid _ read.0 read.1 found r
     c.requires c.in_ok-found.ensures.file read.2 read.3 last
-    (subst (λ (s : Streams). IfOk r (λ holds. TellsEnd w.program o name found holds (TellsText s new)))
+    (subst (λ (s : Streams). IfOk r
+    (λ holds. TellsManifestEnd w.program o name found holds (TellsText s new)))
     c.session.view_is c.end_manifest.ensures.told)
 
 pub returns-in_err-found-clause-checked : goal.returns-in_err-found-clause-checked
@@ -39,7 +41,9 @@ returns-in_err-found-clause-checked g c =
     g.H.Hashes.hashing in
     let o = c.args.options.now in
     let name = c.args.name.now in
-    stops (GoesOn w o name c.args.session.now c.check_lines.new.session) _ _
+    result_ok-none_after_error
+    (ManifestIsCheckedFromHere w o name c.args.session.now c.check_lines.new.session) _ _
     c.from_residual.ensures.1
-    (opened_stops g.D.File.OpenFile.named g.D.File.OpenFile.left c.args.manifest.file _ w o name
+    (open_manifest-check_stopped g.D.File.OpenFile.named g.D.File.OpenFile.left c.args.manifest.file
+    _ w o name
     c.args.session.now c.check_lines.new.session c.requires (c.in_err-found.ensures.stopped refl))

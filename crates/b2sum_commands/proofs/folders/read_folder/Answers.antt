@@ -1,8 +1,8 @@
 use Rattle.std.proofs.Common.{ℕ, ◌^◌, List, ap, rules, subst}
 use Rattle.b2sum_commands.specs.World.{Streams, world_of}
-use Rattle.b2sum_commands.proofs.KeyFiles.{both_found, none_found}
-use Rattle.b2sum_commands.proofs.SealedChecks.{OpenUnlisted}
-use Rattle.b2sum_commands.proofs.WalkedFolders.{folder_read}
+use Rattle.b2sum_commands.proofs.KeyFiles.{found_by_both-combine, none_found}
+use Rattle.b2sum_commands.proofs.SealedChecks.{OpenListIsNotRead}
+use Rattle.b2sum_commands.proofs.WalkedFolders.{folder_listed-if_read_or_told}
 use Rattle.b2sum_commands.proofs.folders.read_folder.Goals as goal
 
 pub returns-clause-listed : goal.returns-clause-listed
@@ -27,11 +27,13 @@ returns-clause-listed g c =
     } in
     let left = g.D.File.OpenFile.left c.in-Ok.list in
     let r = c.read_list_from.result in
-    folder_read w folder left (g.D.File.OpenFile.left c.read_list_from.new.file) old new r
+    folder_listed-if_read_or_told w folder left (g.D.File.OpenFile.left c.read_list_from.new.file)
+    old new r
     c.in-Ok.ensures.bytes c.read_list_from.ensures.text
-    (both_found r _ _ _ (λ list text same. search (rules, same, c.session.view_is))
+    (found_by_both-combine r _ _ _ (λ list text same. search (rules, same, c.session.view_is))
     c.read_list_from.ensures.text c.read_list_from.ensures.kept)
     (ap (λ (s : Streams). record s { told = new.told; messages_failed = new.messages_failed })
     c.session.view_is)
-    (none_found r _ _ (λ told. subst (λ (s : Streams). OpenUnlisted w folder (2 ^ 28) left s new)
+    (none_found r _ _
+    (λ told. subst (λ (s : Streams). OpenListIsNotRead w folder (2 ^ 28) left s new)
     c.session.view_is told) c.read_list_from.ensures.told)

@@ -3,7 +3,7 @@ use Rattle.std.proofs.Common.{length, Vec, Global}
 use Rattle.std.proofs.lemmas.List.{get_or-map, length-map}
 use Rattle.b2sum_commands.specs.World.{world_of}
 use Rattle.b2sum_commands.proofs.DoneInTurn.{items_of}
-use Rattle.b2sum_commands.proofs.WalkedFolders.{walked_more, walked_none}
+use Rattle.b2sum_commands.proofs.WalkedFolders.{walked_to-next_folder, walked_to-no_folder}
 use Rattle.b2sum_commands.proofs.folders.walk.Goals as goal
 
 pub loop-at-init : goal.loop-at-init
@@ -14,7 +14,7 @@ loop-at-init g c =
     record {
       walked = (
         [],
-        walked_none w (items_of c.args.given.now) c.args.session.now
+        walked_to-no_folder w (items_of c.args.given.now) c.args.session.now
             (items_of c.in_ok-found.found.folders.items) (items_of c.in_ok-found.found.files.items)
             (items_of c.in_ok-found.found.others.items) c.in_ok-found.ensures.folders
             (ap items_of c.in_ok-found.ensures.files) (ap items_of c.in_ok-found.ensures.others),
@@ -43,7 +43,7 @@ loop-at-preserved g c =
     record {
       walked = (
         before.0 ++ (listed.0 ∷ []),
-        walked_more w (items_of c.args.given.now) c.args.session.now c.loop-at.session
+        walked_to-next_folder w (items_of c.args.given.now) c.args.session.now c.loop-at.session
             c.list_folder.new.session (items_of found.folders.items) (items_of found.files.items)
             (items_of found.others.items) (items_of new.folders.items) (items_of new.files.items)
             (items_of new.others.items) c.loop-at.at before.0 c.loop-at.are_listed

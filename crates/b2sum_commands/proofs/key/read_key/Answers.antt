@@ -1,8 +1,9 @@
 use Rattle.std.proofs.Common.{◌≡◌, ℕ, Bool, List, Option, true, false, ap, refl, rules, subst, sym}
 use Rattle.b2sum_commands.specs.Messages.{is_standard_input}
-use Rattle.b2sum_commands.specs.ProgramRuns.{IsPastKey}
+use Rattle.b2sum_commands.specs.ProgramRuns.{InputIsPastKey}
 use Rattle.b2sum_commands.specs.World.{Streams, world_of}
-use Rattle.b2sum_commands.proofs.KeyFiles.{OpenLacks, both_found, file_lacks, input_lacks}
+use Rattle.b2sum_commands.proofs.KeyFiles.{OpenFileHasNoKey, found_by_both-combine}
+use Rattle.b2sum_commands.proofs.KeyFiles.{no_key_told-for_file, no_key_told-for_standard_input}
 use Rattle.b2sum_commands.proofs.KeyFiles.{none_found}
 use Rattle.b2sum_commands.proofs.StandardInputName.{dash_name}
 use Rattle.b2sum_commands.proofs.key.read_key.Goals as goal
@@ -27,8 +28,11 @@ returns-then-is_standard_input-clause-told g c =
       messages_failed = g.E.Sink.failed c.read_key_from.new.messages;
     } in
     let dash : is_standard_input name ≡ true = search (rules, c.if-is_standard_input.true, c.is_standard_input.ensures) in
-    none_found c.read_key_from.result _ _ (λ told. input_lacks w name c.args.form.is_hex c.args.form.most old new dash
-    (subst (λ (s : Streams). OpenLacks w name c.args.form.is_hex c.args.form.most s.left s new) c.session.view_is told))
+    none_found c.read_key_from.result _ _
+    (λ told. no_key_told-for_standard_input w name c.args.form.is_hex c.args.form.most old new
+    dash
+    (subst (λ (s : Streams). OpenFileHasNoKey w name c.args.form.is_hex c.args.form.most s.left s
+    new) c.session.view_is told))
     c.read_key_from.ensures.told
 
 pub returns-then-is_standard_input-clause-kept : goal.returns-then-is_standard_input-clause-kept
@@ -37,11 +41,11 @@ returns-then-is_standard_input-clause-kept g c =
     let old : Streams = c.args.session.now in
     let left : Option (List ℕ) = g.D.File.OpenFile.left c.read_key_from.new.file in
     let dash : is_standard_input name ≡ true = search (rules, c.if-is_standard_input.true, c.is_standard_input.ensures) in
-    both_found c.read_key_from.result _ _ _ (λ key past same. (
+    found_by_both-combine c.read_key_from.result _ _ _ (λ key past same. (
       left,
       search (rules, same, c.session.view_is),
-      subst (λ (b : Bool). IsPastKey b old.left left) (sym dash)
-          (subst (λ (l : Option (List ℕ)). IsPastKey true l left)
+      subst (λ (b : Bool). InputIsPastKey b old.left left) (sym dash)
+          (subst (λ (l : Option (List ℕ)). InputIsPastKey true l left)
           (ap (λ (s : Streams). s.left) c.session.view_is) past),
     )) c.read_key_from.ensures.end c.read_key_from.ensures.kept
 
@@ -58,9 +62,11 @@ returns-in-Ok-clause-told g c =
     } in
     let left : Option (List ℕ) = g.D.File.OpenFile.left c.in-Ok.file in
     let other : is_standard_input name ≡ false = search (rules, c.if-is_standard_input.false, c.is_standard_input.ensures) in
-    none_found c.read_key_from-in-Ok.result _ _ (λ told. file_lacks w name c.args.form.is_hex c.args.form.most left old new
+    none_found c.read_key_from-in-Ok.result _ _
+    (λ told. no_key_told-for_file w name c.args.form.is_hex c.args.form.most left old new
     other c.in-Ok.ensures.bytes
-    (subst (λ (s : Streams). OpenLacks w name c.args.form.is_hex c.args.form.most left s new) c.session.view_is told))
+    (subst (λ (s : Streams). OpenFileHasNoKey w name c.args.form.is_hex c.args.form.most left s new)
+    c.session.view_is told))
     c.read_key_from-in-Ok.ensures.told
 
 pub returns-in-Ok-clause-kept : goal.returns-in-Ok-clause-kept
@@ -68,8 +74,8 @@ returns-in-Ok-clause-kept g c =
     let name : List ℕ = c.args.name.now in
     let old : Streams = c.args.session.now in
     let other : is_standard_input name ≡ false = search (rules, c.if-is_standard_input.false, c.is_standard_input.ensures) in
-    both_found c.read_key_from-in-Ok.result _ _ _ (λ key past same. (
+    found_by_both-combine c.read_key_from-in-Ok.result _ _ _ (λ key past same. (
       old.left,
       search (rules, same, c.session.view_is),
-      subst (λ (b : Bool). IsPastKey b old.left old.left) (sym other) refl,
+      subst (λ (b : Bool). InputIsPastKey b old.left old.left) (sym other) refl,
     )) c.read_key_from-in-Ok.ensures.end c.read_key_from-in-Ok.ensures.kept

@@ -1,6 +1,7 @@
-use Rattle.b2sum_commands.proofs.ReadBack.{manifest_printed}
+use Rattle.b2sum_commands.proofs.ReadBack.{printed_sums-are_manifest}
 use Rattle.b2sum_commands.proofs.laws.print_manifest.Goals as goal
 
 pub returns-clause-manifest : goal.returns-clause-manifest
 returns-clause-manifest g c =
-    manifest_printed _ _ _ _ _ _ c.requires.named c.requires.lines c.print_sums.ensures.lines
+    printed_sums-are_manifest _ _ _ _ _ _ c.requires.named c.requires.lines
+    c.print_sums.ensures.lines

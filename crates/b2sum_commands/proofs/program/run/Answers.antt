@@ -1,17 +1,20 @@
 use Rattle.std.proofs.Common.{◌≡◌, true, false, None, refl, subst, ap, ◌∙◌, rules}
-use Rattle.b2sum_commands.specs.World.{Streams, IsEnded, world_of}
-use Rattle.b2sum_commands.proofs.MessagesInTurn.{done_run, ended_by_memory, ended_by_write}
-use Rattle.b2sum_commands.proofs.MessagesInTurn.{ended_run, refused_run}
+use Rattle.b2sum_commands.specs.World.{Streams, RunEndsWithError, world_of}
+use Rattle.b2sum_commands.proofs.MessagesInTurn.{run_status-without_error, run_ended-by_no_memory}
+use Rattle.b2sum_commands.proofs.MessagesInTurn.{run_ended-by_failed_write}
+use Rattle.b2sum_commands.proofs.MessagesInTurn.{run_status-after_error, refused_run-has_status_1}
 use Rattle.b2sum_commands.proofs.program.run.Goals as goal
 
 pub returns-in-Ok-true-clause-line : goal.returns-in-Ok-true-clause-line
 returns-in-Ok-true-clause-line g c =
-    done_run _ _ _ _ c.args.session.now c.run_words.new.session c.in-Ok-true.field-0 true 0
+    run_status-without_error _ _ _ _ c.args.session.now c.run_words.new.session c.in-Ok-true.field-0
+    true 0
     (search rules) refl c.in-Ok-true.ensures.line
 
 pub returns-in-Ok-false-clause-line : goal.returns-in-Ok-false-clause-line
 returns-in-Ok-false-clause-line g c =
-    done_run _ _ _ _ c.args.session.now c.run_words.new.session c.in-Ok-false.field-0 false 1
+    run_status-without_error _ _ _ _ c.args.session.now c.run_words.new.session
+    c.in-Ok-false.field-0 false 1
     (search rules) refl c.in-Ok-false.ensures.line
 
 pub returns-in-Err-WriteFailed-clause-line : goal.returns-in-Err-WriteFailed-clause-line
@@ -35,15 +38,17 @@ returns-in-Err-WriteFailed-clause-line g c =
     let was : c.run_words.new.session.output_failed ≡ true =
     c.in-Err-WriteFailed.ensures.write (search rules) in
     let failed : new.output_failed ≡ true = ap (λ (s : Streams). s.output_failed) c.session.view_is ∙ was in
-    ended_run w _ _ _ c.args.session.now c.run_words.new.session new None
+    run_status-after_error w _ _ _ c.args.session.now c.run_words.new.session new None
     c.in-Err-WriteFailed.ensures.line refl
-    (subst (λ (mid : Streams). IsEnded w mid new) c.session.view_is
-    (ended_by_write w _ new c.last_error-error.result failed (c.last_error-error.ensures failed)
+    (subst (λ (mid : Streams). RunEndsWithError w mid new) c.session.view_is
+    (run_ended-by_failed_write w _ new c.last_error-error.result failed
+    (c.last_error-error.ensures failed)
     c.warn_of_write.ensures refl))
 
 pub returns-in-Err-WriteFailed-clause-refused : goal.returns-in-Err-WriteFailed-clause-refused
 returns-in-Err-WriteFailed-clause-refused g c =
-    refused_run _ _ _ _ c.args.session.now _ 1 (returns-in-Err-WriteFailed-clause-line g c)
+    refused_run-has_status_1 _ _ _ _ c.args.session.now _ 1
+    (returns-in-Err-WriteFailed-clause-line g c)
 
 pub returns-in-Err-NoMemory-clause-line : goal.returns-in-Err-NoMemory-clause-line
 returns-in-Err-NoMemory-clause-line g c =
@@ -63,11 +68,12 @@ returns-in-Err-NoMemory-clause-line g c =
         number = c.session.inside.place.number;
       };
     } in
-    ended_run w _ _ _ c.args.session.now c.run_words.new.session new None
+    run_status-after_error w _ _ _ c.args.session.now c.run_words.new.session new None
     c.in-Err-NoMemory.ensures.line refl
-    (subst (λ (mid : Streams). IsEnded w mid new) c.session.view_is
-    (ended_by_memory w _ new c.warn_of_memory.ensures refl))
+    (subst (λ (mid : Streams). RunEndsWithError w mid new) c.session.view_is
+    (run_ended-by_no_memory w _ new c.warn_of_memory.ensures refl))
 
 pub returns-in-Err-NoMemory-clause-refused : goal.returns-in-Err-NoMemory-clause-refused
 returns-in-Err-NoMemory-clause-refused g c =
-    refused_run _ _ _ _ c.args.session.now _ 1 (returns-in-Err-NoMemory-clause-line g c)
+    refused_run-has_status_1 _ _ _ _ c.args.session.now _ 1
+    (returns-in-Err-NoMemory-clause-line g c)

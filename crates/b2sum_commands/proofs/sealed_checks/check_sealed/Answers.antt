@@ -1,14 +1,15 @@
 use Rattle.std.proofs.Common.{ap, rules, subst, ◌∙◌, Some, List, ℕ, Bool, ◌&&◌}
 use Rattle.std.specs.Result.{result_ok}
 use Rattle.text_lines.specs.Cuts.{lines_of}
-use Rattle.b2sum_commands.specs.Manifests.{IsLine}
-use Rattle.b2sum_commands.specs.Reports.{TellsEnd}
-use Rattle.b2sum_commands.specs.SealedLists.{IsProven}
-use Rattle.b2sum_commands.specs.World.{InTurn, Streams, TellsText, world_of}
-use Rattle.b2sum_commands.proofs.EndedByErrors.{some_of, stops}
+use Rattle.b2sum_commands.specs.Manifests.{LineIsChecked}
+use Rattle.b2sum_commands.specs.Reports.{TellsManifestEnd}
+use Rattle.b2sum_commands.specs.SealedLists.{ListIsCheckedBySeal}
+use Rattle.b2sum_commands.specs.World.{AreDoneInTurn, Streams, TellsText, world_of}
+use Rattle.b2sum_commands.proofs.EndedByErrors.{IfSome-holds_for_value, result_ok-none_after_error}
 use Rattle.b2sum_commands.proofs.DoneInTurn.{items_of}
-use Rattle.b2sum_commands.specs.FolderChecks.{AreCompared, names_of}
-use Rattle.b2sum_commands.proofs.SealedChecks.{read_of, seal_ended, seal_holds}
+use Rattle.b2sum_commands.specs.FolderChecks.{FoldersAreComparedIfAny, entry_names_of_lines}
+use Rattle.b2sum_commands.proofs.SealedChecks.{read_of, list_checked-stopped_after_lines}
+use Rattle.b2sum_commands.proofs.SealedChecks.{list_checked-seal_holds}
 use Rattle.b2sum_commands.proofs.sealed_checks.check_sealed.Goals as goal
 
 pub returns-clause-checked : goal.returns-clause-checked
@@ -36,25 +37,29 @@ returns-clause-checked g c =
     } in
     let new : Streams = c.has_all.new.session in
     let text : List ℕ = c.as_slice-text.result.now in
-    let found = some_of _ _ c.in-Some.list c.in-Some.is c.in_ok-list.ensures.text in
+    let found = IfSome-holds_for_value _ _ c.in-Some.list c.in-Some.is c.in_ok-list.ensures.text in
     let lines = c.in_ok-counts.ensures.lines in
     let last = ap (λ (s : Streams). record s { told = checked.told; messages_failed = checked.messages_failed })
     c.session-2.view_is in
-    subst (λ (s : Streams). IsProven w o name s new (Some (c.in_ok-holds.holds && c.in_ok-has_all.has_all)))
+    subst (λ (s : Streams). ListIsCheckedBySeal w o name s new
+    (Some (c.in_ok-holds.holds && c.in_ok-has_all.has_all)))
     c.in_ok-begin_manifest.ensures.begun
-    (seal_holds w o name begun read mid checked new text lines.0 c.in_ok-counts.counts
+    (list_checked-seal_holds w o name begun read mid checked new text lines.0 c.in_ok-counts.counts
     c.spacing-spacing.result c.in_ok-holds.holds c.in_ok-has_all.has_all
     (read_of w name begun read c.in-Some.list.items text found.0 found.1 found.2 found.3
     c.as_slice-text.ensures.value)
     (c.in_ok-is_sealed.ensures.sealed.0 (search (rules, c.if-not-branch)))
-    (subst (λ (b : Bool). InTurn (IsLine w o b) (lines_of text) read mid lines.0) c.is_standard_input-is_input.ensures
+    (subst (λ (b : Bool). AreDoneInTurn (LineIsChecked w o b) (lines_of text) read mid lines.0)
+    c.is_standard_input-is_input.ensures
     lines.1)
     lines.2 last
-    (subst (λ (s : Streams). TellsEnd w.program o name (Some c.in_ok-counts.counts) c.in_ok-holds.holds
+    (subst (λ (s : Streams). TellsManifestEnd w.program o name (Some c.in_ok-counts.counts)
+    c.in_ok-holds.holds
     (TellsText s checked)) c.session-2.view_is c.in_ok-holds.ensures.told)
     c.spacing-spacing.ensures
-    (subst (λ (b : Bool). AreCompared w o (items_of o.folders.items)
-    (names_of o b c.spacing-spacing.result (lines_of text)) checked new c.in_ok-has_all.has_all)
+    (subst (λ (b : Bool). FoldersAreComparedIfAny w o (items_of o.folders.items)
+    (entry_names_of_lines o b c.spacing-spacing.result (lines_of text)) checked new
+    c.in_ok-has_all.has_all)
     c.is_standard_input-is_input.ensures c.in_ok-has_all.ensures.compared))
 
 pub returns-in_err-holds-clause-checked : goal.returns-in_err-holds-clause-checked
@@ -81,16 +86,18 @@ returns-in_err-holds-clause-checked g c =
       };
     } in
     let text : List ℕ = c.as_slice-text.result.now in
-    let found = some_of _ _ c.in-Some.list c.in-Some.is c.in_ok-list.ensures.text in
+    let found = IfSome-holds_for_value _ _ c.in-Some.list c.in-Some.is c.in_ok-list.ensures.text in
     let lines = c.in_ok-counts.ensures.lines in
-    subst (λ (s : Streams). IsProven w o name s new (result_ok c.from_residual-in_err-holds.result))
+    subst (λ (s : Streams). ListIsCheckedBySeal w o name s new
+    (result_ok c.from_residual-in_err-holds.result))
     c.in_ok-begin_manifest.ensures.begun
-    (stops (IsProven w o name begun new) _ _ c.from_residual-in_err-holds.ensures.1
-    (seal_ended w o name begun read mid new text lines.0
+    (result_ok-none_after_error (ListIsCheckedBySeal w o name begun new) _ _
+    c.from_residual-in_err-holds.ensures.1
+    (list_checked-stopped_after_lines w o name begun read mid new text lines.0
     (read_of w name begun read c.in-Some.list.items text found.0 found.1 found.2 found.3
     c.as_slice-text.ensures.value)
     (c.in_ok-is_sealed.ensures.sealed.0 (search (rules, c.if-not-branch)))
-    (subst (λ (b : Bool). InTurn (IsLine w o b) (lines_of text) read mid lines.0)
+    (subst (λ (b : Bool). AreDoneInTurn (LineIsChecked w o b) (lines_of text) read mid lines.0)
     c.is_standard_input-is_input.ensures lines.1)
     (ap (λ (s : Streams). s.held) c.session-2.view_is)))
 
@@ -106,15 +113,17 @@ returns-in_err-has_all-clause-checked g c =
     let mid : Streams = c.check_text.new.session in
     let new : Streams = c.has_all.new.session in
     let text : List ℕ = c.as_slice-text.result.now in
-    let found = some_of _ _ c.in-Some.list c.in-Some.is c.in_ok-list.ensures.text in
+    let found = IfSome-holds_for_value _ _ c.in-Some.list c.in-Some.is c.in_ok-list.ensures.text in
     let lines = c.in_ok-counts.ensures.lines in
-    subst (λ (s : Streams). IsProven w o name s new (result_ok c.from_residual-in_err-has_all.result))
+    subst (λ (s : Streams). ListIsCheckedBySeal w o name s new
+    (result_ok c.from_residual-in_err-has_all.result))
     c.in_ok-begin_manifest.ensures.begun
-    (stops (IsProven w o name begun new) _ _ c.from_residual-in_err-has_all.ensures.1
-    (seal_ended w o name begun read mid new text lines.0
+    (result_ok-none_after_error (ListIsCheckedBySeal w o name begun new) _ _
+    c.from_residual-in_err-has_all.ensures.1
+    (list_checked-stopped_after_lines w o name begun read mid new text lines.0
     (read_of w name begun read c.in-Some.list.items text found.0 found.1 found.2 found.3
     c.as_slice-text.ensures.value)
     (c.in_ok-is_sealed.ensures.sealed.0 (search (rules, c.if-not-branch)))
-    (subst (λ (b : Bool). InTurn (IsLine w o b) (lines_of text) read mid lines.0)
+    (subst (λ (b : Bool). AreDoneInTurn (LineIsChecked w o b) (lines_of text) read mid lines.0)
     c.is_standard_input-is_input.ensures lines.1)
     (c.in_err-has_all.ensures.held ∙ ap (λ (s : Streams). s.held) c.session-2.view_is)))

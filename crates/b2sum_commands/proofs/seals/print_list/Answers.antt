@@ -1,10 +1,10 @@
 use Rattle.std.proofs.Common.{ap, rules, subst, ◌∙◌, List, ℕ, Option}
-use Rattle.b2sum_commands.specs.PrintedSums.{IsKept}
-use Rattle.b2sum_commands.specs.SealedLists.{ArePrinted, seal_line}
-use Rattle.b2sum_commands.specs.World.{StopsIn, Streams, world_of}
+use Rattle.b2sum_commands.specs.PrintedSums.{ListKeepsPrinted}
+use Rattle.b2sum_commands.specs.SealedLists.{FilesArePrinted, seal_line}
+use Rattle.b2sum_commands.specs.World.{AcceptsNothingOrPart, Streams, world_of}
 use Rattle.b2sum_commands.proofs.DoneInTurn.{items_of}
-use Rattle.b2sum_commands.proofs.EndedByErrors.{stops}
-use Rattle.b2sum_commands.proofs.SealedChecks.{seal_stops}
+use Rattle.b2sum_commands.proofs.EndedByErrors.{result_ok-none_after_error}
+use Rattle.b2sum_commands.proofs.SealedChecks.{list_printed-stopped_in_seal}
 use Rattle.b2sum_commands.proofs.seals.print_list.Goals as goal
 
 pub returns-in_err-put-clause-lines : goal.returns-in_err-put-clause-lines
@@ -32,12 +32,16 @@ returns-in_err-put-clause-lines g c =
     let list : List ℕ = c.print_lines.new.list.items in
     let line = c.as_slice-2.ensures.value ∙ c.in_ok-seal.ensures.line
     ∙ ap (seal_line w.hashing o) c.as_slice.ensures.value in
-    stops (ArePrinted o.is_sealed w o names old new) _ _ c.from_residual-in_err-put.ensures.1
-    (seal_stops o.is_sealed w o names old mid new list c.in_ok-print_lines.field-0
+    result_ok-none_after_error (FilesArePrinted o.is_sealed w o names old new) _ _
+    c.from_residual-in_err-put.ensures.1
+    (list_printed-stopped_in_seal o.is_sealed w o names old mid new list c.in_ok-print_lines.field-0
     (search (rules, c.if-not-options)) (search (rules, c.if-not-branch))
     c.in_ok-print_lines.ensures.lines
-    (subst (λ (xs : List ℕ). IsKept o.is_sealed old.held mid.held xs list) c.new-list.ensures.items
+    (subst (λ (xs : List ℕ). ListKeepsPrinted o.is_sealed old.held mid.held xs list)
+    c.new-list.ensures.items
     c.in_ok-print_lines.ensures.kept)
-    (subst (λ (held : Option (List ℕ)). StopsIn held new.held (seal_line w.hashing o list))
+    (subst (λ (held : Option (List ℕ)). AcceptsNothingOrPart held new.held
+    (seal_line w.hashing o list))
     (ap (λ (s : Streams). s.held) c.session.view_is)
-    (subst (StopsIn (g.K.Sink.held c.session.inside.output) new.held) line c.in_err-put.ensures.part)))
+    (subst (AcceptsNothingOrPart (g.K.Sink.held c.session.inside.output) new.held) line
+    c.in_err-put.ensures.part)))

@@ -1,18 +1,21 @@
 use Rattle.std.proofs.Common.{◌≡◌, Bool, List, drop}
 use Rattle.std.specs.List.{list_all}
-use Rattle.b2sum_commands.specs.World.{world_of, Ends}
-use Rattle.b2sum_commands.specs.PrintedSums.{IsKept, IsSum}
-use Rattle.b2sum_commands.specs.ReadAhead.{AreFound}
-use Rattle.b2sum_commands.proofs.DoneInTurn.{Sofar, items_of}
+use Rattle.b2sum_commands.specs.World.{world_of, EndsWithResult}
+use Rattle.b2sum_commands.specs.PrintedSums.{ListKeepsPrinted, DigestLineIsPrinted}
+use Rattle.b2sum_commands.specs.ReadAhead.{AreDigestsOfFiles}
+use Rattle.b2sum_commands.proofs.DoneInTurn.{DoneSoFar, items_of}
 use Rattle.b2sum_commands.proofs.sums.print_lines.Given as goal
 
 abbrev pub invariant-loop-name : goal.invariant-loop-name
 invariant-loop-name g l = record {
-  kept : IsKept l.options.is_sealed l.fn.session.held l.session.held l.fn.list.items l.list.items;
-  lines : (each : List Bool) × Sofar (Ends (IsSum (world_of l.host.program.name.items
+  kept : ListKeepsPrinted l.options.is_sealed l.fn.session.held l.session.held l.fn.list.items
+      l.list.items;
+  lines : (each : List Bool)
+      × DoneSoFar (EndsWithResult (DigestLineIsPrinted (world_of l.host.program.name.items
       g.D.File.OpenFile.named g.D.File.OpenFile.failed
       g.D.File.OpenFile.failure (g.D.Disk.files l.host.disk) g.H.Hashes.hashing) l.options)) (items_of l.names) l.fn.session
       (items_of (drop l.name-index l.names)) l.session each
       × (l.are_read ≡ list_all (λ well. well) each);
-  ahead : AreFound (g.D.Disk.files l.host.disk) g.H.Hashes.hashing l.options l.ahead.found.items;
+  ahead : AreDigestsOfFiles (g.D.Disk.files l.host.disk) g.H.Hashes.hashing l.options
+      l.ahead.found.items;
 }

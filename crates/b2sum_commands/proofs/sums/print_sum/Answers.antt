@@ -1,8 +1,8 @@
 use Rattle.std.proofs.Common.{ap, rules, subst, ◌∙◌, sym, List, ℕ, Option}
 use Rattle.b2sum_commands.specs.Messages.{is_standard_input}
-use Rattle.b2sum_commands.specs.PrintedSums.{ReadsAs, IsSum}
+use Rattle.b2sum_commands.specs.PrintedSums.{SourceHasText, DigestLineIsPrinted}
 use Rattle.b2sum_commands.specs.World.{Streams, world_of}
-use Rattle.b2sum_commands.proofs.EndedByErrors.{stops}
+use Rattle.b2sum_commands.proofs.EndedByErrors.{result_ok-none_after_error}
 use Rattle.b2sum_commands.proofs.KeptLines.{sum_stops}
 use Rattle.b2sum_commands.proofs.sums.print_sum.Goals as goal
 
@@ -31,8 +31,10 @@ returns-in_err-put_line-clause-line g c =
         number = c.session.inside.place.number;
       };
     } in
-    stops (IsSum w o name old new) _ _ c.from_residual-in_err-put_line.ensures.1
+    result_ok-none_after_error (DigestLineIsPrinted w o name old new) _ _
+    c.from_residual-in_err-put_line.ensures.1
     (sum_stops w o name old new (g.K.Sink.held c.session.inside.output) whole.0 _ _ held
-    (subst (λ (l : Option (List ℕ)). ReadsAs (is_standard_input name) (w.files.holds name) old.left l whole.0)
+    (subst (λ (l : Option (List ℕ)). SourceHasText (is_standard_input name) (w.files.holds name)
+    old.left l whole.0)
     (sym left) whole.1) whole.2 (c.as_slice.ensures.value ∙ c.in_ok-line.ensures.text)
     c.in_err-put_line.ensures.part)

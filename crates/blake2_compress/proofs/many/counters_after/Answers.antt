@@ -1,9 +1,9 @@
 use Rattle.std.proofs.Common.{arith}
-use Rattle.blake2_compress.proofs.ManyMessages.{filled_all, filled_more}
+use Rattle.blake2_compress.proofs.ManyMessages.{HoldsForFirst-all, HoldsForFirst-next}
 use Rattle.blake2_compress.proofs.many.counters_after.Goals as goal
 
 pub loop-j-preserved : goal.loop-j-preserved
-loop-j-preserved g c = filled_more _ c.loop-j.invariant (omega arith) (omega arith)
+loop-j-preserved g c = HoldsForFirst-next _ c.loop-j.invariant (omega arith) (omega arith)
 
 pub returns : goal.returns
-returns g c j lt = filled_all c.loop-j.invariant c.loop-j-test.false j lt
+returns g c j lt = HoldsForFirst-all c.loop-j.invariant c.loop-j-test.false j lt

@@ -2,7 +2,7 @@ use Rattle.std.proofs.Common.{◌≡◌, ◌+◌, ◌≤◌, arith}
 use Rattle.blake2_simd.specs.Family.{offset_bytes, reserved_bytes, salt_bytes}
 use Rattle.blake2_compress.specs.Hash.{Fits, Parameters}
 use Rattle.blake2_compress.specs.Views.{given_parameters}
-use Rattle.blake2_compress.proofs.ParameterBlock.{block_written}
+use Rattle.blake2_compress.proofs.ParameterBlock.{put_mid-parameter_block}
 use Rattle.blake2_compress.proofs.params.parameter_block.Goals as goal
 
 pub returns : goal.returns
@@ -23,4 +23,5 @@ returns g c =
       c.copy_from_slice-6.ensures.after,
       c.to_le_bytes.ensures,
       c.to_le_bytes-2.ensures,
-    ) (block_written g.f g.row.N g.row.O g.row.R g.row.S p offset room reserved salt table fits)
+    ) (put_mid-parameter_block g.f g.row.N g.row.O g.row.R g.row.S p offset room reserved salt table
+    fits)

@@ -1,7 +1,7 @@
 use Rattle.std.proofs.Common.{◌≡◌, ◌+◌, ◌-◌, ◌∙◌, ℕ, List, ap, arith, drop, get_or, sym, take}
 use Rattle.std.specs.Int.{from_le_bytes, w32, w64}
 use Rattle.blake2_simd.specs.Family.{offset_bytes}
-use Rattle.blake2_compress.proofs.Padding.{read_padded_4, read_padded_8}
+use Rattle.blake2_compress.proofs.Padding.{from_le_bytes-padded_32, from_le_bytes-padded_64}
 use Rattle.blake2_compress.proofs.params.tree_in.Goals as goal
 
 pub returns : goal.returns
@@ -12,11 +12,11 @@ returns g c =
     let room : 8 + g.row.O - 8 ≡ offset_bytes g.f = omega arith in
     let leaf : c.from_le_bytes.result ≡ from_le_bytes w32 (take 4 (drop 4 block)) =
     c.from_le_bytes.ensures ∙ ap (λ (xs : List ℕ). from_le_bytes w32 xs) c.padded.ensures
-    ∙ read_padded_4 4 (take 4 (drop 4 block)) in
+    ∙ from_le_bytes-padded_32 4 (take 4 (drop 4 block)) in
     let node : c.from_le_bytes-2.result ≡ from_le_bytes w64
     (take (offset_bytes g.f) (drop 8 block)) =
     c.from_le_bytes-2.ensures ∙ ap (λ (xs : List ℕ). from_le_bytes w64 xs) c.padded-2.ensures
-    ∙ read_padded_8 8 (take (8 + g.row.O - 8) (drop 8 block))
+    ∙ from_le_bytes-padded_64 8 (take (8 + g.row.O - 8) (drop 8 block))
     ∙ ap (λ (n : ℕ). from_le_bytes w64 (take n (drop 8 block))) room in
     λ i. record {
       fanout = get_or block 2 0;

@@ -2,16 +2,16 @@ use Rattle.std.proofs.Common.{◌≡◌, ℕ, ◌+◌, ◌-◌, ◌*◌, List, [
 use Rattle.std.proofs.Common.{◌∙◌, drop-drop, arith, rules}
 use borrow.Rule.Slice.PartMut.{put_mid}
 use Rattle.blake2_tree.specs.TreeRoot.{TreeParameters, tree_parameters, leaf_digests}
-use Rattle.blake2_tree.specs.LeafRanges.{range_digests, with_part}
-use Rattle.blake2_tree.proofs.RangeLaws.{leaf_digests-placed}
+use Rattle.blake2_tree.specs.LeafRanges.{range_digests, overwritten_from}
+use Rattle.blake2_tree.proofs.RangeLaws.{leaf_digests-of_replaced_range}
 use Rattle.blake2_examples.proofs.trees.root_after_change.Goals as goal
 
 -- The digests after the call are those of the old leaves, with those of the new one among them.
-placed_digests : (p : TreeParameters) (first : ℕ) (d new leaf old : List ℕ)
+put_mid-is_overwritten_leaf_digest : (p : TreeParameters) (first : ℕ) (d new leaf old : List ℕ)
     → new ≡ leaf → length new ≡ 64 → d ≡ leaf_digests p old
     → put_mid (64 * first) (64 * first + 64 - 64 * first) d new
-    ≡ with_part (64 * first) leaf (leaf_digests p old)
-placed_digests p first d new leaf old is long are =
+    ≡ overwritten_from (64 * first) leaf (leaf_digests p old)
+put_mid-is_overwritten_leaf_digest p first d new leaf old is long are =
     let at : ℕ = 64 * first in
     let step : at + (at + 64 - at) ≡ at + length leaf = omega (arith, long, ap length is) in
     let behind : drop (at + 64 - at) (drop at d) ≡ drop (at + length leaf) (leaf_digests p old) =
@@ -26,7 +26,8 @@ returns-clause-root c = λ old are placed.
     let long : length new ≡ 64 = search rules in
     c.root_of_leaves.ensures.changes old c.args.leaf.now c.args.first c.args.ends c.requires.range
     placed
-    (placed_digests p c.args.first c.args.digests.now new leaf old c.hash_leaves.ensures.digests
+    (put_mid-is_overwritten_leaf_digest p c.args.first c.args.digests.now new leaf old
+    c.hash_leaves.ensures.digests
     long are)
 
 pub returns-clause-digests : goal.returns-clause-digests
@@ -35,7 +36,9 @@ returns-clause-digests c = λ old are placed.
     let new : List ℕ = c.hash_leaves.new.digests in
     let leaf : List ℕ = range_digests p c.args.first c.args.ends c.args.leaf.now in
     let long : length new ≡ 64 = search rules in
-    placed_digests p c.args.first c.args.digests.now new leaf old c.hash_leaves.ensures.digests
+    put_mid-is_overwritten_leaf_digest p c.args.first c.args.digests.now new leaf old
+    c.hash_leaves.ensures.digests
     long are
-    ∙ sym (leaf_digests-placed p c.args.first c.args.ends old c.args.leaf.now (omega arith)
+    ∙ sym (leaf_digests-of_replaced_range p c.args.first c.args.ends old c.args.leaf.now
+    (omega arith)
     c.requires.range placed)

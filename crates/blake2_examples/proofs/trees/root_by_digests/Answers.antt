@@ -5,25 +5,26 @@ use Rattle.std.specs.List.{All}
 use borrow.Rule.Slice.PartMut.{put_mid}
 use Rattle.blake2_tree.specs.TreeRoot.{TreeParameters, tree_parameters, tree_root, leaf_count}
 use Rattle.blake2_tree.specs.LeafRanges.{range_digests, AreWholeLeaves}
-use Rattle.blake2_tree.specs.LeafUpdates.{next_leaf, joined_digests}
+use Rattle.blake2_tree.specs.LeafUpdates.{next_leaf_index, joined_range_digests}
 use Rattle.blake2_tree.specs.TreeHashers.{held_tree, count as count-of}
-use Rattle.blake2_tree.proofs.RangeLaws.{leaf_count-is, length-range_digests}
-use Rattle.blake2_examples.proofs.Slices.{put_mid-end}
+use Rattle.blake2_tree.proofs.RangeLaws.{leaf_count-is_quotient, length-range_digests}
+use Rattle.blake2_examples.proofs.Slices.{put_mid-overwrites_end}
 use Rattle.blake2_examples.proofs.trees.root_by_digests.Goals as goal
 
 abbrev p : TreeParameters
 p = tree_parameters [] [] 65536
 
 -- The digests of the two ranges, one after the other.
-joined : (next : ℕ) (middle more d a b : List ℕ) → AreWholeLeaves 65536 middle
+put_mid-is_joined_range_digests : (next : ℕ) (middle more d a b : List ℕ)
+    → AreWholeLeaves 65536 middle
     → AreWholeLeaves 65536 more
     → length d ≡ 64 * (leaf_count 65536 (length middle) + leaf_count 65536 (length more))
     → a ≡ range_digests p next false middle
     → b ≡ range_digests p (next + leaf_count 65536 (length middle)) false more
     → let at : ℕ = 64 * leaf_count 65536 (length middle) in
     put_mid at (length (a ++ drop at d) - at) (a ++ drop at d) b
-    ≡ joined_digests p next (middle ∷ more ∷ [])
-joined next middle more d a b whole_middle whole_more room is_a is_b =
+    ≡ joined_range_digests p next (middle ∷ more ∷ [])
+put_mid-is_joined_range_digests next middle more d a b whole_middle whole_more room is_a is_b =
     let count : ℕ = leaf_count 65536 (length middle) in
     let at : ℕ = 64 * count in
     let long : length a ≡ at =
@@ -32,8 +33,8 @@ joined next middle more d a b whole_middle whole_more room is_a is_b =
     ap length is_b ∙ length-range_digests p (next + count) false more in
     let same : length b ≡ length (drop at d) = omega (arith, size, room, length-drop at d) in
     let first : count ≡ length middle / 65536 =
-    leaf_count-is 65536 middle (omega arith) whole_middle in
-    put_mid-end at a b (drop at d) long same
+    leaf_count-is_quotient 65536 middle (omega arith) whole_middle in
+    put_mid-overwrites_end at a b (drop at d) long same
     ∙ (λ i. is_a i ++ is_b i)
     ∙ ap (λ n. range_digests p next false middle ++ range_digests p (next + n) false more) first
     ∙ ap (λ r. range_digests p next false middle ++ r)
@@ -67,13 +68,13 @@ update_leaves-requires c =
     omega (arith, long_b, c.requires.room, c.leaf_count-count.ensures, length-drop (64 * count) d) in
     let many : length all ≡ n * 64 = omega (
       arith,
-      ap length (put_mid-end (64 * count) a b (drop (64 * count) d) long_a same),
+      ap length (put_mid-overwrites_end (64 * count) a b (drop (64 * count) d) long_a same),
       length-append a b,
       long_a,
       long_b,
       c.leaf_count-count.ensures,
-      leaf_count-is 65536 middle (omega arith) c.requires.middle,
-      leaf_count-is 65536 more (omega arith) c.requires.more,
+      leaf_count-is_quotient 65536 middle (omega arith) c.requires.middle,
+      leaf_count-is_quotient 65536 more (omega arith) c.requires.more,
     ) in
     let fits : count-of begun + length all / 64 * 65536 + length last < 2 ^ 58 =
     omega (arith, many, counts, c.requires.middle.whole, c.requires.more.whole, c.requires.fits) in (
@@ -95,13 +96,14 @@ returns c =
     let begun = c.update.new.self in
     let shared = c.update.ensures.shared ∙ c.new-hasher.ensures.shared in
     let size = ap (λ s. s.leaf_length) shared in
-    let first : c.counted-next.result / 65536 ≡ next_leaf (held_tree begun) =
+    let first : c.counted-next.result / 65536 ≡ next_leaf_index (held_tree begun) =
     (λ i. c.counted-next.ensures i / sym size i) in
     let whole : All (AreWholeLeaves begun.nodes.leaf_length) (middle ∷ more ∷ []) =
     subst (λ n. All (AreWholeLeaves n) (middle ∷ more ∷ [])) (sym size)
     (search (rules, c.requires.middle, c.requires.more)) in
     let at = c.leaf_count-count.ensures in
-    let are = joined (c.counted-next.result / 65536) middle more c.args.digests.now
+    let are = put_mid-is_joined_range_digests (c.counted-next.result / 65536) middle more
+    c.args.digests.now
     c.hash_leaves.new.digests c.hash_leaves-2.new.digests c.requires.middle c.requires.more
     c.requires.room c.hash_leaves.ensures.digests
     (c.hash_leaves-2.ensures.digests
@@ -110,7 +112,7 @@ returns c =
     ((λ i. put_mid (64 * at i) (length (c.hash_leaves.new.digests
     ++ drop (64 * at i) c.args.digests.now) - 64 * at i) (c.hash_leaves.new.digests
     ++ drop (64 * at i) c.args.digests.now) c.hash_leaves-2.new.digests)
-    ∙ are ∙ (λ i. joined_digests (sym shared i) (first i) (middle ∷ more ∷ []))) in
+    ∙ are ∙ (λ i. joined_range_digests (sym shared i) (first i) (middle ∷ more ∷ []))) in
     let both : middle ++ (more ++ []) ≡ middle ++ more = ap (λ r. middle ++ r) (append-nil more) in
     c.finalize.ensures ∙ took.future []
     ∙ c.update.ensures.future (((middle ++ (more ++ [])) ++ last) ++ [])

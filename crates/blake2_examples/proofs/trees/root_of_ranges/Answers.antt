@@ -2,9 +2,10 @@ use Rattle.std.proofs.Common.{◌≡◌, ℕ, ◌+◌, ◌-◌, ◌*◌, ◌/◌
 use Rattle.std.proofs.Common.{length, drop, ap, ◌∙◌, append-nil, arith, rules, length-drop}
 use borrow.Rule.Slice.PartMut.{put_mid}
 use Rattle.blake2_tree.specs.TreeRoot.{TreeParameters, tree_parameters, leaf_count, tree_root}
-use Rattle.blake2_tree.specs.LeafRanges.{range_digests, cut_digests, IsCut}
-use Rattle.blake2_tree.proofs.RangeLaws.{leaf_count-is, length-range_digests}
-use Rattle.blake2_examples.proofs.Slices.{put_mid-end}
+use Rattle.blake2_tree.specs.LeafRanges.{range_digests, digests_of_cut_ranges}
+use Rattle.blake2_tree.specs.LeafRanges.{IsCutAtLeafBoundaries}
+use Rattle.blake2_tree.proofs.RangeLaws.{leaf_count-is_quotient, length-range_digests}
+use Rattle.blake2_examples.proofs.Slices.{put_mid-overwrites_end}
 use Rattle.blake2_examples.proofs.trees.root_of_ranges.Goals as goal
 
 pub returns : goal.returns
@@ -22,14 +23,18 @@ returns c =
     ap length c.hash_leaves-2.ensures.digests ∙ length-range_digests p count true last in
     let same : length b ≡ length (drop at d) = omega (arith, size, length-drop at d) in
     let next : count ≡ 0 + length front / 65536 =
-    omega (arith, c.leaf_count-count.ensures, leaf_count-is 65536 front (omega arith) c.requires.whole) in
-    let cut : IsCut 65536 (front ∷ []) last = record {
+    omega (
+      arith,
+      c.leaf_count-count.ensures,
+      leaf_count-is_quotient 65536 front (omega arith) c.requires.whole,
+    ) in
+    let cut : IsCutAtLeafBoundaries 65536 (front ∷ []) last = record {
       whole = search (rules, c.requires.whole);
       some = inl c.requires.some;
     } in
     let joined : put_mid at (length (a ++ drop at d) - at) (a ++ drop at d) b
-    ≡ cut_digests p 0 (front ∷ []) last =
-    put_mid-end at a b (drop at d) long same
+    ≡ digests_of_cut_ranges p 0 (front ∷ []) last =
+    put_mid-overwrites_end at a b (drop at d) long same
     ∙ (λ i. c.hash_leaves.ensures.digests i ++ c.hash_leaves-2.ensures.digests i)
     ∙ ap (λ n. range_digests p 0 false front ++ range_digests p n true last) next in
     c.root_of_leaves.ensures.cuts (front ∷ []) last cut joined

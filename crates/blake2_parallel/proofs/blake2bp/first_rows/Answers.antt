@@ -2,9 +2,9 @@ use Rattle.std.proofs.Common.{◌≡◌, ℕ, ◌<◌, List, [], ◌∷◌, bit_
 use Rattle.std.proofs.Common.{refl}
 use Rattle.blake2_simd.specs.Family.{blake2b}
 use Rattle.blake2_simd.specs.Lanes.{in_lane}
-use Rattle.blake2_simd.proofs.Lanes.{in_four}
+use Rattle.blake2_simd.proofs.Lanes.{for_each_of_four_lanes}
 use Rattle.blake2_compress.specs.Hash.{parameter_block, parameter_words, start, words_of, xor_words}
-use Rattle.blake2_parallel.specs.Parallel.{Settings, parameters_at, settings}
+use Rattle.blake2_parallel.specs.Parallel.{Settings, parallel_node_parameters, settings}
 use Rattle.blake2_parallel.proofs.blake2bp.first_rows.Goals as goal
 
 pub returns : goal.returns
@@ -12,7 +12,7 @@ unfolding start parameter_words parameter_block words_of xor_words
 returns c j lane =
     let a : Settings =
     settings c.args.output_size c.args.key.now c.args.salt.now c.args.persona.now in
-    let from : ℕ → List ℕ = λ k. start blake2b (parameters_at blake2b a k 0) in
+    let from : ℕ → List ℕ = λ k. start blake2b (parallel_node_parameters blake2b a k 0) in
     let same : List ℕ → ℕ → List ℕ = λ h k. replicate 4 (slice_index h k) in
     let offset : List ℕ → ℕ → ℕ → ℕ = λ h k m. bit_xor (slice_index h k) m in
     let each : List ℕ → ℕ → List ℕ = λ h k.
@@ -20,6 +20,6 @@ returns c j lane =
     let rows : List ℕ → List (List ℕ) = λ h.
     same h 0 ∷ each h 1 ∷ same h 2 ∷ same h 3 ∷ same h 4 ∷ same h 5 ∷ same h 6 ∷ same h 7 ∷ [] in
     let started : (k : ℕ) → k < 4 → in_lane k (rows (from 0)) ≡ from k =
-    in_four (λ k. in_lane k (rows (from 0)) ≡ from k) refl refl refl refl in
+    for_each_of_four_lanes (λ k. in_lane k (rows (from 0)) ≡ from k) refl refl refl refl in
     ap (λ (h : List ℕ). in_lane j (rows h))
     (c.start_words.ensures ∙ ap (start blake2b) c.parameters-first.ensures) ∙ started j lane

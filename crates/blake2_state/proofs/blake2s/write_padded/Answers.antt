@@ -1,6 +1,6 @@
 -- Made by tools/twins.py from proofs/blake2b/write_padded/Answers.antt.
 use Rattle.std.proofs.Common.{◌≡◌, ℕ, ◌++◌, List, length, drop, replicate, ap, ◌∙◌, rules}
-use Rattle.blake2_state.proofs.StateLaws.{padded_over}
+use Rattle.blake2_state.proofs.StateLaws.{append_zeros-is_padded}
 use Rattle.blake2_state.proofs.blake2s.write_padded.Goals as goal
 
 pub returns : goal.returns
@@ -8,4 +8,4 @@ returns c =
     let key : List ℕ = c.args.key.now in
     let whole : length key ≡ 32 = search rules in
     ap (λ (xs : List ℕ). xs ++ drop 32 (replicate 64 0)) c.copy_from_slice.ensures.after
-    ∙ padded_over 64 32 key whole
+    ∙ append_zeros-is_padded 64 32 key whole

@@ -5,8 +5,9 @@ use Rattle.blake2_digest.specs.States.{digest_now}
 use Rattle.blake2_state.specs.Blake2b.{meaning}
 use Rattle.blake2_tree.specs.NodeViews.{node_digest}
 use Rattle.blake2_tree.specs.TreeRoot.{TreeParameters, tree_parameters}
-use Rattle.blake2_tree.specs.LeafRanges.{IsRootOfCuts, IsRootOfChanges}
-use Rattle.blake2_tree.proofs.RangeLaws.{is_root_of_cuts, is_root_of_changes}
+use Rattle.blake2_tree.specs.LeafRanges.{IsRootOfCuts, IsRootAfterReplacement}
+use Rattle.blake2_tree.proofs.RangeLaws.{root_over_digests-is_root_of_cuts}
+use Rattle.blake2_tree.proofs.RangeLaws.{root_over_digests-after_replacement}
 use Rattle.blake2_state.proofs.tree.write_root_of_leaves.Goals as goal
 
 -- The root over these digests is written.
@@ -32,10 +33,13 @@ pub returns-clause-cuts : goal.returns-clause-cuts
 returns-clause-cuts c =
     let p = tree_parameters c.args.salt.now c.args.persona.now c.args.leaf_length in
     subst (IsRootOfCuts (length c.args.out.now) p c.args.digests.now) (sym (returns-clause-root c))
-    (is_root_of_cuts (length c.args.out.now) p c.args.digests.now c.requires.leaf_length)
+    (root_over_digests-is_root_of_cuts (length c.args.out.now) p c.args.digests.now
+    c.requires.leaf_length)
 
 pub returns-clause-changes : goal.returns-clause-changes
 returns-clause-changes c =
     let p = tree_parameters c.args.salt.now c.args.persona.now c.args.leaf_length in
-    subst (IsRootOfChanges (length c.args.out.now) p c.args.digests.now) (sym (returns-clause-root c))
-    (is_root_of_changes (length c.args.out.now) p c.args.digests.now c.requires.leaf_length)
+    subst (IsRootAfterReplacement (length c.args.out.now) p c.args.digests.now)
+    (sym (returns-clause-root c))
+    (root_over_digests-after_replacement (length c.args.out.now) p c.args.digests.now
+    c.requires.leaf_length)

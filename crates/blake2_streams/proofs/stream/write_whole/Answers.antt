@@ -4,7 +4,7 @@ use Rattle.std.proofs.Math.Seq.{take-add}
 use Rattle.std.proofs.lemmas.List.{take_all}
 use Rattle.std.proofs.KnownBytes.{Appends-trans}
 use Rattle.std.specs.Io.KnownBytes.{Appends}
-use Rattle.blake2_streams.proofs.StreamLemmas.{unfailed-more}
+use Rattle.blake2_streams.proofs.StreamLemmas.{unfailed-if_bytes_accepted}
 use Rattle.blake2_streams.proofs.stream.write_whole.Goals as goal
 
 pub writing-preserved : goal.writing-preserved
@@ -17,7 +17,8 @@ writing-preserved g c =
     take_all (length text - at) (drop at text) (omega (arith, length-drop at text)) in
     let fits : n ≤ length (drop at text) = rw whole at wrote.bound in
     record {
-      unfailed = unfailed-more _ _ _ n c.writing.invariant.unfailed c.if-count-eq0.false
+      unfailed =
+          unfailed-if_bytes_accepted _ _ _ n c.writing.invariant.unfailed c.if-count-eq0.false
           wrote.fails;
       in_text = omega (arith, length-drop at text, fits);
       written =

@@ -5,8 +5,8 @@ use Rattle.std.proofs.lemmas.Grind.{div_ceil_times}
 use Rattle.blake2_tree.proofs.ranges.leaf_count.Goals as goal
 
 -- A quotient that is rounded up.
-div_ceil-is : (a b : ℕ) → 0 < b → div_ceil a b ≡ (a + (b - 1)) / b
-div_ceil-is a b some =
+div_ceil-is_rounded_up_quotient : (a b : ℕ) → 0 < b → div_ceil a b ≡ (a + (b - 1)) / b
+div_ceil-is_rounded_up_quotient a b some =
     let k : ℕ = div_ceil a b in
     let bounds = div_ceil_times a b some in
     let least : a ≤ k * b = bounds.0 in
@@ -21,5 +21,5 @@ returns c =
     let e : c.div_ceil.result ≡ (c.args.message_length + (c.args.leaf_length - 1))
     / c.args.leaf_length =
     c.div_ceil.ensures ∙ ap (div_ceil c.args.message_length) c.from.ensures
-    ∙ div_ceil-is c.args.message_length c.args.leaf_length c.requires in
+    ∙ div_ceil-is_rounded_up_quotient c.args.message_length c.args.leaf_length c.requires in
     omega (arith, e)

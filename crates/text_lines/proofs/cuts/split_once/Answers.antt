@@ -2,7 +2,7 @@ use Rattle.std.proofs.Common.{◌≡◌, ℕ, ◌+◌, ◌==◌, length, take, S
 use Rattle.std.proofs.lemmas.List.Sums.{position_or_len_is}
 use Rattle.std.proofs.lemmas.List.{take_rest}
 use Rattle.std.specs.List.{position_or_len}
-use Rattle.text_lines.proofs.CutLemmas.{cut_found, cut_none}
+use Rattle.text_lines.proofs.CutLemmas.{cut_at-first_index, cut_at-no_byte}
 use Rattle.text_lines.proofs.cuts.split_once.Goals as goal
 
 pub returns-in_err-place : goal.returns-in_err-place
@@ -11,7 +11,7 @@ returns-in_err-place c =
     let none : position_or_len (λ (b : ℕ). b == c.args.byte) text ≡ length text =
     position_or_len_is (λ (b : ℕ). b == c.args.byte) text (length text) 0 (omega arith)
     (search rules) (search rules) in
-    rw c.from_residual.ensures (sym (cut_none c.args.byte text none))
+    rw c.from_residual.ensures (sym (cut_at-no_byte c.args.byte text none))
 
 pub returns : goal.returns
 returns c =
@@ -19,4 +19,4 @@ returns c =
     let found = position_or_len_is (λ (b : ℕ). b == c.args.byte) text c.in_ok-place.place 0
     (search rules) (search rules) (search rules) in
     ap (λ xs. Some (take c.in_ok-place.place text, xs)) (take_rest text (c.in_ok-place.place + 1))
-    ∙ sym (cut_found c.args.byte text c.in_ok-place.place found (search rules))
+    ∙ sym (cut_at-first_index c.args.byte text c.in_ok-place.place found (search rules))

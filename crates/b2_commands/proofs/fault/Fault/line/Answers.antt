@@ -5,22 +5,22 @@ use Rattle.b2_commands.specs.declared.fault.Fault.TheVariants.{WrongWords, Wrong
 use Rattle.b2_commands.specs.declared.fault.Fault.TheVariants.{WrongLine}
 use Rattle.b2_commands.specs.declared.fault.Fault.TheVariants.{NoSuchSlot, LineTooLong, TooLong}
 use Rattle.b2_commands.specs.declared.fault.Fault.TheVariants.{ReadFailed, NoMemory, WriteFailed}
-use Rattle.b2_commands.specs.Faults.{fault_text}
+use Rattle.b2_commands.specs.Faults.{fault_message}
 use Rattle.b2_commands.proofs.fault.Fault.line.Goals as goal
 use Rattle.b2_commands.proofs.fault.Fault.line.Goals.{in-Some, in_default}
 
 -- The message of an error is short.
-short : (fault : Fault) → length (fault_text fault) ≤ 12
-short WrongWords = omega arith
-short WrongHex = omega arith
-short WrongLength = omega arith
-short (WrongLine number) = omega arith
-short (NoSuchSlot number) = omega arith
-short (LineTooLong number) = omega arith
-short TooLong = omega arith
-short ReadFailed = omega arith
-short NoMemory = omega arith
-short WriteFailed = omega arith
+fault_message-at_most_12_bytes : (fault : Fault) → length (fault_message fault) ≤ 12
+fault_message-at_most_12_bytes WrongWords = omega arith
+fault_message-at_most_12_bytes WrongHex = omega arith
+fault_message-at_most_12_bytes WrongLength = omega arith
+fault_message-at_most_12_bytes (WrongLine number) = omega arith
+fault_message-at_most_12_bytes (NoSuchSlot number) = omega arith
+fault_message-at_most_12_bytes (LineTooLong number) = omega arith
+fault_message-at_most_12_bytes TooLong = omega arith
+fault_message-at_most_12_bytes ReadFailed = omega arith
+fault_message-at_most_12_bytes NoMemory = omega arith
+fault_message-at_most_12_bytes WriteFailed = omega arith
 
 pub push_decimal-requires : goal.push_decimal-requires
 push_decimal-requires c =
@@ -46,8 +46,16 @@ push-requires-2 c =
             w.push.ensures,
             c.starting-line.ensures,
           )
-          (omega (arith, digits, short c.args.self, length-append (decimal number) (codes ": ")))
-      | in_default w ↦ rw (w.line-is, c.starting-line.ensures) (omega (arith, short c.args.self))
+          (omega (
+            arith,
+            digits,
+            fault_message-at_most_12_bytes c.args.self,
+            length-append
+                (decimal number) (codes ": "),
+          ))
+      | in_default w ↦
+          rw (w.line-is, c.starting-line.ensures)
+          (omega (arith, fault_message-at_most_12_bytes c.args.self))
     ]
     )
 
@@ -68,11 +76,13 @@ returns-clause-room c =
           (omega (
             arith,
             digits,
-            short c.args.self,
+            fault_message-at_most_12_bytes c.args.self,
             length-append (decimal number ++ codes ": ")
-                (fault_text c.args.self),
+                (fault_message c.args.self),
             length-append (decimal number) (codes ": "),
           ))
-      | in_default w ↦ rw (w.line-is, c.starting-line.ensures) (omega (arith, short c.args.self))
+      | in_default w ↦
+          rw (w.line-is, c.starting-line.ensures)
+          (omega (arith, fault_message-at_most_12_bytes c.args.self))
     ]
     )

@@ -2,7 +2,7 @@ use Rattle.std.proofs.Common.{◌∙◌, ◌≤◌, refl, arith, rules, subst, t
 use Rattle.std.specs.Io.KnownBytes.{Appends}
 use Rattle.blake2_xof.specs.Blake2xb.{output_now}
 use Rattle.b2_commands.specs.PrintedLines.{piece_text}
-use Rattle.b2_commands.proofs.PrintedDigits.{more_printed, none_printed}
+use Rattle.b2_commands.proofs.PrintedDigits.{Appends-next_piece, Appends-empty_prefix}
 use Rattle.b2_commands.proofs.outputs.blake2xb.print_next.Goals as goal
 
 pub printing-init : goal.printing-init
@@ -13,7 +13,7 @@ printing-init g c = record {
   xof_length = refl;
   position = omega arith;
   unfailed = c.requires.sink;
-  printed = none_printed c.args.raw c.args.count _ _;
+  printed = Appends-empty_prefix c.args.raw c.args.count _ _;
 }
 
 pub printing-preserved : goal.printing-preserved
@@ -29,7 +29,8 @@ printing-preserved g c =
       xof_length = read.squeezed.xof_length ∙ before.xof_length;
       position = omega (arith, read.squeezed.position, before.position, before.within, within);
       unfailed = search rules;
-      printed = more_printed c.args.raw (output_now c.args.state.now) c.args.state.now.reader.position
+      printed =
+          Appends-next_piece c.args.raw (output_now c.args.state.now) c.args.state.now.reader.position
           c.args.count c.printing.left size c.printing.state.reader.position _ _ _ within
           before.within before.position before.printed
           (subst (λ all. Appends (g.K.Sink.held c.printing.sink) (g.K.Sink.held c.print_piece.new.sink)

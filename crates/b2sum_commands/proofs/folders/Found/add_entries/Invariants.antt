@@ -1,16 +1,17 @@
 use Rattle.std.proofs.Common.{length}
 use Rattle.b2sum_commands.proofs.DoneInTurn.{items_of}
-use Rattle.b2sum_commands.proofs.FolderEntries.{HasRest}
-use Rattle.b2sum_commands.specs.Folders.{is_file, is_folder, is_other}
+use Rattle.b2sum_commands.proofs.FolderEntries.{NamesUpToRest}
+use Rattle.b2sum_commands.specs.Folders.{is_file, is_folder_letter, is_other_letter}
 use Rattle.b2sum_commands.proofs.folders.Found.add_entries.Given as goal
 
 abbrev pub invariant-entry : goal.invariant-entry
 invariant-entry l = record {
-  folders : HasRest is_folder l.folder l.fn.list (items_of l.fn.self.folders.items) l.rest
+  folders : NamesUpToRest is_folder_letter l.folder l.fn.list (items_of l.fn.self.folders.items)
+      l.rest
       (items_of l.self.folders.items);
-  files : HasRest is_file l.folder l.fn.list (items_of l.fn.self.files.items) l.rest
+  files : NamesUpToRest is_file l.folder l.fn.list (items_of l.fn.self.files.items) l.rest
       (items_of l.self.files.items);
-  others : HasRest is_other l.folder l.fn.list (items_of l.fn.self.others.items) l.rest
+  others : NamesUpToRest is_other_letter l.folder l.fn.list (items_of l.fn.self.others.items) l.rest
       (items_of l.self.others.items);
 }
 

@@ -1,5 +1,5 @@
 use Rattle.blake2_simd.specs.Family.{blake2b}
-use Rattle.blake2_compress.proofs.LoadedRows.{sixteen_read}
+use Rattle.blake2_compress.proofs.LoadedRows.{words_of-sixteen}
 use Rattle.blake2_compress.proofs.compress.blake2b.block_words.Goals as goal
 
 pub returns : goal.returns
@@ -14,4 +14,4 @@ returns c =
       c.to_array-4.ensures,
       c.from_le_bytes-4.ensures,
     )
-    (sixteen_read blake2b c.args.block.now)
+    (words_of-sixteen blake2b c.args.block.now)

@@ -1,5 +1,5 @@
-use Rattle.blake2_compress.proofs.Sigma.{sigma_below}
+use Rattle.blake2_compress.proofs.Sigma.{sigma-below_16}
 use Rattle.blake2_compress.proofs.compress.blake2b.round_at.Goals as goal
 
 pub round-requires : goal.round-requires
-round-requires c = λ j _. sigma_below _ j
+round-requires c = λ j _. sigma-below_16 _ j

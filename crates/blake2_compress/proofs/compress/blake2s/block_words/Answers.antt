@@ -1,6 +1,6 @@
 -- Made by tools/twins.py from proofs/compress/blake2b/block_words/Answers.antt.
 use Rattle.blake2_simd.specs.Family.{blake2s}
-use Rattle.blake2_compress.proofs.LoadedRows.{sixteen_read}
+use Rattle.blake2_compress.proofs.LoadedRows.{words_of-sixteen}
 use Rattle.blake2_compress.proofs.compress.blake2s.block_words.Goals as goal
 
 pub returns : goal.returns
@@ -15,4 +15,4 @@ returns c =
       c.to_array-4.ensures,
       c.from_le_bytes-4.ensures,
     )
-    (sixteen_read blake2s c.args.block.now)
+    (words_of-sixteen blake2s c.args.block.now)

@@ -1,7 +1,8 @@
 use Rattle.std.proofs.Common.{◌≡◌, ℕ, ◌<◌, length, slice_index_or, [], sym, ◌∙◌, arith}
 use Rattle.blake2_compress.specs.MessagePieces.{piece_count, pieces}
-use Rattle.blake2_compress.proofs.MessagePieces.{length-pieces, pieces-at, pieces_determine}
-use Rattle.blake2_compress.proofs.MessagePieces.{no_pair_differs}
+use Rattle.blake2_compress.proofs.MessagePieces.{length-pieces, pieces-at}
+use Rattle.blake2_compress.proofs.MessagePieces.{PiecesDetermineMessage-holds}
+use Rattle.blake2_compress.proofs.MessagePieces.{EqualIfNoPairDiffers-holds}
 use Rattle.blake2_compress.proofs.laws.pieces.first_difference.Goals as goal
 
 -- No pair differs, so the pieces are the same, and they determine the messages.
@@ -18,6 +19,6 @@ returns c =
     let in_a : i < piece_count size (length a) = omega (arith, length-pieces size a) in
     pieces-at size a i in_a ∙ c.loop-i.invariant i (omega arith)
     ∙ sym (pieces-at size b i (omega (arith, number))) in
-    pieces_determine size a b c.requires.size
-    (no_pair_differs (pieces size a) (pieces size b)
+    PiecesDetermineMessage-holds size a b c.requires.size
+    (EqualIfNoPairDiffers-holds (pieces size a) (pieces size b)
     (length-pieces size a ∙ number ∙ sym (length-pieces size b)) same)

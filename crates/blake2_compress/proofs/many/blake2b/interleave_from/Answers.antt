@@ -1,6 +1,6 @@
 use Rattle.std.proofs.Common.{◌≡◌, ◌+◌, ℕ, List, [], ◌∷◌, length, ap, ◌∙◌, arith, rules}
 use Rattle.blake2_simd.specs.Lanes.{in_lane}
-use Rattle.blake2_simd.proofs.Columns.{four_read}
+use Rattle.blake2_simd.proofs.Columns.{four_reads-are_list}
 use Rattle.blake2_compress.proofs.ManyMessages.{word_in_lane}
 use Rattle.blake2_compress.proofs.many.blake2b.interleave_from.Goals as goal
 
@@ -14,4 +14,4 @@ returns c i j low h =
     ∙ word_in_lane words read i (c.args.k + i) j (omega arith) ((λ t.
     c.four_words.ensures i low t ∷ c.four_words-2.ensures i low t ∷ c.four_words-3.ensures i low t ∷
     c.four_words-4.ensures i low t ∷ [])
-    ∙ ap (in_lane (c.args.k + i)) (four_read words [] _ _ _ _ long))
+    ∙ ap (in_lane (c.args.k + i)) (four_reads-are_list words [] _ _ _ _ long))

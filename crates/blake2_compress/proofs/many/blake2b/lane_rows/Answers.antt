@@ -2,7 +2,7 @@ use Rattle.std.proofs.Common.{◌≡◌, ℕ, List, [], ◌∷◌, length, get_o
 use Rattle.std.proofs.Common.{arith, rules}
 use Rattle.std.proofs.lemmas.List.{get_or_default}
 use Rattle.blake2_simd.specs.Rows.{chaining_words}
-use Rattle.blake2_compress.proofs.Lanes.{two_columns}
+use Rattle.blake2_compress.proofs.Lanes.{in_lane-two_columns}
 use Rattle.blake2_compress.proofs.many.blake2b.lane_rows.Goals as goal
 
 pub returns : goal.returns
@@ -18,6 +18,6 @@ returns c =
     λ x d four. get_or_default x j d [] (omega (arith, four, c.requires)) in
     (λ i. chaining_words (at low c.index-low-j.result long_low i ∷ at high c.index-high-j.result long_high i
     ∷ []))
-    ∙ two_columns rows low high j _ _ _ _ _ _ _ _ long
+    ∙ in_lane-two_columns rows low high j _ _ _ _ _ _ _ _ long
     (λ k lt. c.transpose-low.ensures k j lt c.requires)
     (λ k lt. c.transpose-high.ensures k j lt c.requires)

@@ -5,8 +5,8 @@ use Rattle.blake2_simd.specs.Family.{blake2b}
 use Rattle.blake2_simd.specs.Rows.{chaining_words}
 use Rattle.blake2_compress.specs.Hash.{bytes_of, input_data, input_flags, last_chain}
 use Rattle.blake2_compress.specs.Lanes.{input_at}
-use Rattle.blake2_compress.proofs.Lanes.{two_columns}
-use Rattle.blake2_compress.proofs.ManyMessages.{filled_all, filled_more}
+use Rattle.blake2_compress.proofs.Lanes.{in_lane-two_columns}
+use Rattle.blake2_compress.proofs.ManyMessages.{HoldsForFirst-all, HoldsForFirst-next}
 use Rattle.blake2_compress.proofs.many.blake2b.outputs.Goals as goal
 
 pub loop-j-preserved : goal.loop-j-preserved
@@ -18,7 +18,7 @@ loop-j-preserved g c =
     let at : (x : List (List ℕ)) (d : List ℕ) → length x ≡ 4
     → get_or x c.loop-j.j d ≡ slice_index_or x c.loop-j.j [] =
     λ x d long. get_or_default x c.loop-j.j d [] (omega (arith, long, c.loop-j-test.true)) in
-    filled_more _ c.loop-j.invariant (omega arith) (c.output.ensures
+    HoldsForFirst-next _ c.loop-j.invariant (omega arith) (c.output.ensures
     ∙ (λ i. take g.row.N (bytes_of blake2b (chaining_words (at low c.index-low-j.result long_low i
     ∷ at high c.index-high-j.result long_high i ∷ [])))))
 
@@ -27,9 +27,9 @@ returns g c j lt =
     let h : List (List ℕ) = c.compress_all.new.h in
     let long : length h ≡ 8 = search rules in
     let input = input_at c.args.inputs.now j in
-    filled_all c.loop-j.invariant c.loop-j-test.false j lt
+    HoldsForFirst-all c.loop-j.invariant c.loop-j-test.false j lt
     ∙ ap (λ (w : List ℕ). take g.row.N (bytes_of blake2b w))
-    (two_columns h c.transpose-low.result c.transpose-high.result j _ _ _ _ _ _ _ _ long
+    (in_lane-two_columns h c.transpose-low.result c.transpose-high.result j _ _ _ _ _ _ _ _ long
     (λ k low. c.transpose-low.ensures k j low lt) (λ k low. c.transpose-high.ensures k j low lt)
     ∙ c.compress_all.ensures j lt ∙ ap (λ (w : List ℕ). last_chain blake2b w 0 (input_data blake2b input)
     (input_flags input)) (c.start_lanes-h.ensures j lt))

@@ -2,7 +2,7 @@
 use Rattle.std.proofs.Common.{◌-◌}
 use Rattle.blake2_simd.specs.Family.{blake2s}
 use Rattle.blake2_compress.proofs.Lanes.{no_blocks}
-use Rattle.blake2_compress.proofs.ManyMessages.{Filled, LaterOf}
+use Rattle.blake2_compress.proofs.ManyMessages.{HoldsForFirst, AreLaterBlocksOf}
 use Rattle.blake2_compress.proofs.many.blake2s.compress_all_but_last.Given as goal
 
 abbrev pub ghost-step_count : goal.ghost-step_count
@@ -12,4 +12,5 @@ abbrev pub ghost-later_blocks : goal.ghost-later_blocks
 ghost-later_blocks a = blake2s
 
 abbrev pub invariant-loop-j : goal.invariant-loop-j
-invariant-loop-j l = Filled 8 no_blocks (LaterOf blake2s l.inputs (l.count - 2)) l.later l.j
+invariant-loop-j l =
+    HoldsForFirst 8 no_blocks (AreLaterBlocksOf blake2s l.inputs (l.count - 2)) l.later l.j

@@ -3,7 +3,7 @@ use Rattle.std.proofs.Common.{ℕ, List, [], slice_index_or, ◌∙◌}
 use Rattle.std.proofs.lemmas.List.{get_or-replicate}
 use Rattle.blake2_simd.specs.Family.{blake2s}
 use Rattle.blake2_simd.specs.Lanes.{in_lane}
-use Rattle.blake2_simd.proofs.Lanes.{listed_in_eight}
+use Rattle.blake2_simd.proofs.Lanes.{list_of_eight-at_lane}
 use Rattle.blake2_compress.specs.Hash.{blocks, compress, input_data}
 use Rattle.blake2_compress.specs.Lanes.{flags_at, input_at}
 use Rattle.blake2_compress.proofs.many.blake2s.compress_at.Goals as goal
@@ -12,7 +12,7 @@ pub returns : goal.returns
 returns c j h =
     let block : ℕ → List ℕ = λ k. slice_index_or
     (blocks blake2s (input_data blake2s (input_at c.args.inputs.now k))) c.args.i [] in
-    let here = listed_in_eight block _ _ _ _ _ _ _ _
+    let here = list_of_eight-at_lane block _ _ _ _ _ _ _ _
     c.block_at.ensures c.block_at-2.ensures c.block_at-3.ensures
     c.block_at-4.ensures c.block_at-5.ensures c.block_at-6.ensures
     c.block_at-7.ensures c.block_at-8.ensures j h in

@@ -3,8 +3,8 @@ use Rattle.std.proofs.Common.{◌≡◌, ◌<◌, ℕ, List, [], ◌∷◌, leng
 use Rattle.std.proofs.Common.{arith, lit<, rules}
 use Rattle.std.proofs.lemmas.List.{get_or_default}
 use Rattle.blake2_simd.specs.Family.{blake2s}
-use Rattle.blake2_simd.proofs.Lanes.{listed_in_eight}
-use Rattle.blake2_compress.proofs.Lanes.{single_after}
+use Rattle.blake2_simd.proofs.Lanes.{list_of_eight-at_lane}
+use Rattle.blake2_compress.proofs.Lanes.{after_blocks-single}
 use Rattle.blake2_compress.proofs.many.blake2s.compress_next.Goals as goal
 
 pub returns : goal.returns
@@ -16,7 +16,8 @@ returns c j h =
     let at : (k : ℕ) (d : List ℕ) → k < 8 → get_or blocks k d ≡ block k =
     λ k d lt. get_or_default blocks k d [] (omega (arith, long, lt)) in
     c.compress_blocks.ensures j h
-    ∙ single_after blake2s _ (block j) _ _ _ (listed_in_eight (λ k. single (block k)) _ _ _ _ _ _ _ _
+    ∙ after_blocks-single blake2s _ (block j) _ _ _
+    (list_of_eight-at_lane (λ k. single (block k)) _ _ _ _ _ _ _ _
     (ap single (at 0 _ (lit< tt)))
     (ap single (at 1 _ (lit< tt)))
     (ap single (at 2 _ (lit< tt)))

@@ -4,11 +4,11 @@ use Rattle.blake2_simd.specs.Family.{blake2s}
 use Rattle.blake2_compress.specs.Hash.{digest}
 use Rattle.blake2_compress.specs.Lanes.{no_input}
 use Rattle.blake2_compress.specs.Views.{input_of}
-use Rattle.blake2_compress.proofs.Lanes.{mapped}
+use Rattle.blake2_compress.proofs.Lanes.{map-by_index}
 use Rattle.blake2_compress.proofs.many.blake2s.hash_eight.Goals as goal
 
 pub returns : goal.returns
 unfolding digest
 returns g c =
-    mapped 8 (λ input. digest blake2s g.row.N (input_of input)) no_input c.args.inputs.now
+    map-by_index 8 (λ input. digest blake2s g.row.N (input_of input)) no_input c.args.inputs.now
     c.outputs.result (search rules) (search rules) c.outputs.ensures

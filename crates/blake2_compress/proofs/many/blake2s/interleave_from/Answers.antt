@@ -1,7 +1,7 @@
 -- Made by tools/twins.py from proofs/many/blake2b/eight/interleave_from/Answers.antt.
 use Rattle.std.proofs.Common.{◌≡◌, ◌+◌, ℕ, List, [], ◌∷◌, length, ap, ◌∙◌, arith, rules}
 use Rattle.blake2_simd.specs.Lanes.{in_lane}
-use Rattle.blake2_simd.proofs.Columns.{eight_read}
+use Rattle.blake2_simd.proofs.Columns.{eight_reads-are_list}
 use Rattle.blake2_compress.proofs.ManyMessages.{word_in_lane}
 use Rattle.blake2_compress.proofs.many.blake2s.interleave_from.Goals as goal
 
@@ -19,4 +19,4 @@ returns c i j low h =
     c.eight_words-3.ensures i low t ∷ c.eight_words-4.ensures i low t ∷
     c.eight_words-5.ensures i low t ∷ c.eight_words-6.ensures i low t ∷
     c.eight_words-7.ensures i low t ∷ c.eight_words-8.ensures i low t ∷ [])
-    ∙ ap (in_lane (c.args.k + i)) (eight_read words [] _ _ _ _ _ _ _ _ long))
+    ∙ ap (in_lane (c.args.k + i)) (eight_reads-are_list words [] _ _ _ _ _ _ _ _ long))

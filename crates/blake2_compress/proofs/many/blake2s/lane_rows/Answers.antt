@@ -1,6 +1,6 @@
 use Rattle.std.proofs.Common.{◌≡◌, ℕ, List, [], length, slice_index_or, sym, ap, ◌∙◌, arith, rules}
 use Rattle.std.proofs.lemmas.List.{get_or_default}
-use Rattle.blake2_compress.proofs.Lanes.{lane_is}
+use Rattle.blake2_compress.proofs.Lanes.{in_lane-equal_by_words}
 use Rattle.blake2_compress.proofs.many.blake2s.lane_rows.Goals as goal
 
 pub returns : goal.returns
@@ -14,5 +14,6 @@ returns c =
     let is : c.to_array.result ≡ slice_index_or words j [] =
     c.to_array.ensures ∙ get_or_default words j _ [] (omega (arith, many, c.requires)) in
     c.to_rows.ensures ∙ is
-    ∙ sym (lane_is 8 j rows (slice_index_or words j []) long (sym (ap length is) ∙ wide)
+    ∙ sym (in_lane-equal_by_words 8 j rows (slice_index_or words j []) long
+    (sym (ap length is) ∙ wide)
     (λ k lt. sym (c.transpose-words.ensures k j lt c.requires)))

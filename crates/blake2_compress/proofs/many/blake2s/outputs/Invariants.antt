@@ -1,8 +1,8 @@
 -- Made by tools/twins.py from proofs/many/blake2b/eight/outputs/Invariants.antt.
 use Rattle.std.proofs.Common.{[]}
 use Rattle.blake2_simd.specs.Family.{blake2s}
-use Rattle.blake2_compress.proofs.ManyMessages.{Filled, OutputOf}
+use Rattle.blake2_compress.proofs.ManyMessages.{HoldsForFirst, IsColumnOutput}
 use Rattle.blake2_compress.proofs.many.blake2s.outputs.Given as goal
 
 abbrev pub invariant-loop-j : goal.invariant-loop-j
-invariant-loop-j g l = Filled 8 [] (OutputOf blake2s g.row.N l.words) l.outputs l.j
+invariant-loop-j g l = HoldsForFirst 8 [] (IsColumnOutput blake2s g.row.N l.words) l.outputs l.j

@@ -1,6 +1,6 @@
 -- Made by tools/twins.py from proofs/many/blake2b/eight/round_at/Answers.antt.
-use Rattle.blake2_compress.proofs.Sigma.{sigma_below}
+use Rattle.blake2_compress.proofs.Sigma.{sigma-below_16}
 use Rattle.blake2_compress.proofs.many.blake2s.round_at.Goals as goal
 
 pub round_each-requires : goal.round_each-requires
-round_each-requires c = λ j _. sigma_below _ j
+round_each-requires c = λ j _. sigma-below_16 _ j

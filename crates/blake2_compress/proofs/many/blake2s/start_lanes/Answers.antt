@@ -2,18 +2,19 @@
 use Rattle.std.proofs.Common.{length, ap, ◌∙◌, arith, rules}
 use Rattle.blake2_simd.specs.Family.{blake2s}
 use Rattle.blake2_compress.specs.Hash.{start}
-use Rattle.blake2_compress.proofs.Lanes.{lane_is}
-use Rattle.blake2_compress.proofs.ManyMessages.{filled_all, filled_more}
+use Rattle.blake2_compress.proofs.Lanes.{in_lane-equal_by_words}
+use Rattle.blake2_compress.proofs.ManyMessages.{HoldsForFirst-all, HoldsForFirst-next}
 use Rattle.blake2_compress.proofs.ParameterSizes.{length-start}
 use Rattle.blake2_compress.proofs.many.blake2s.start_lanes.Goals as goal
 
 pub loop-j-preserved : goal.loop-j-preserved
 loop-j-preserved c =
-    filled_more _ c.loop-j.invariant (omega arith)
+    HoldsForFirst-next _ c.loop-j.invariant (omega arith)
     (c.start_words.ensures ∙ ap (start blake2s) c.input_parameters.ensures)
 
 pub returns : goal.returns
 returns c j h =
-    let words = filled_all c.loop-j.invariant c.loop-j-test.false j h in
-    lane_is 8 j c.interleave.result _ (search rules) (ap length words ∙ length-start blake2s _)
+    let words = HoldsForFirst-all c.loop-j.invariant c.loop-j-test.false j h in
+    in_lane-equal_by_words 8 j c.interleave.result _ (search rules)
+    (ap length words ∙ length-start blake2s _)
     (λ k lt. c.interleave.ensures j k h lt) ∙ words

@@ -2,23 +2,25 @@ use Rattle.std.proofs.Common.{◌≡◌, ◌<◌, ◌∙◌, ℕ, false, nat_eq,
 use Rattle.blake2_simd.specs.Family.{blake2b}
 use Rattle.blake2_simd.specs.Rows.{chaining_words}
 use Rattle.blake2_compress.specs.Hash.{compress, final, inner}
-use Rattle.blake2_compress.proofs.WholeMessages.{key_first, key_only}
+use Rattle.blake2_compress.proofs.WholeMessages.{last_chain-key_then_message, last_chain-key_only}
 use Rattle.blake2_compress.proofs.whole.blake2b.absorb_keyed.Goals as goal
 
-some_bytes : (n : ℕ) → false ≡ nat_eq n 0 → 0 < n
-some_bytes n e = search rules
+positive_if_not_zero : (n : ℕ) → false ≡ nat_eq n 0 → 0 < n
+positive_if_not_zero n e = search rules
 
 pub returns-then-is_empty : goal.returns-then-is_empty
 returns-then-is_empty c =
-    key_only blake2b (chaining_words c.args.h.now) c.args.key.now c.args.message.now _ (final false)
+    last_chain-key_only blake2b (chaining_words c.args.h.now) c.args.key.now c.args.message.now _
+    (final false)
     c.requires.key (search rules) (c.compress.ensures
     ∙ (λ k. compress blake2b (chaining_words c.args.h.now) (c.padded-block.ensures k) 128
     (c.last_block.ensures k)))
 
 pub returns : goal.returns
 returns c =
-    key_first blake2b (chaining_words c.args.h.now) (chaining_words c.compress-2.new.h) c.args.key.now
+    last_chain-key_then_message blake2b (chaining_words c.args.h.now)
+    (chaining_words c.compress-2.new.h) c.args.key.now
     c.args.message.now _ (final false) c.requires.key
-    (some_bytes _ (sym c.if-is_empty.false ∙ c.is_empty.ensures)) (c.compress-2.ensures
+    (positive_if_not_zero _ (sym c.if-is_empty.false ∙ c.is_empty.ensures)) (c.compress-2.ensures
     ∙ (λ k. compress blake2b (chaining_words c.args.h.now) (c.padded-block.ensures k) 128 inner))
     c.compress_all.ensures

@@ -5,12 +5,13 @@ use Rattle.std.proofs.lemmas.List.{get_or_default, take_rest}
 use Rattle.blake2_simd.specs.Family.{blake2s}
 use Rattle.blake2_simd.specs.Rows.{chaining_words}
 use Rattle.blake2_compress.specs.Hash.{block_count, blocks, compress, final, padded}
-use Rattle.blake2_compress.proofs.WholeMessages.{inner_block, last_block, none_before, one_more}
-use Rattle.blake2_compress.proofs.WholeMessages.{whole_end}
+use Rattle.blake2_compress.proofs.WholeMessages.{inner_block-is_chunk, last_block-is_padded_rest}
+use Rattle.blake2_compress.proofs.WholeMessages.{chain-zero_blocks, chain-one_more_block}
+use Rattle.blake2_compress.proofs.WholeMessages.{last_chain-after_last_block}
 use Rattle.blake2_compress.proofs.whole.blake2s.compress_all.Goals as goal
 
 pub loop-i-init : goal.loop-i-init
-loop-i-init c = none_before blake2s _ _ _
+loop-i-init c = chain-zero_blocks blake2s _ _ _
 
 pub loop-i-preserved : goal.loop-i-preserved
 loop-i-preserved c =
@@ -21,9 +22,11 @@ loop-i-preserved c =
     let held : i < length c.as_chunks.result.0.now =
     omega (arith, c.saturating_sub-inner.ensures, c.loop-i-test.true, c.as_chunks.ensures.front_len)
     in
-    one_more blake2s (chaining_words c.args.h.now) c.args.counted (blocks blake2s m) i _ _ _ _
+    chain-one_more_block blake2s (chaining_words c.args.h.now) c.args.counted (blocks blake2s m) i _
+    _ _ _
     c.loop-i.invariant c.compress.ensures (get_or_default c.as_chunks.result.0.now i _ [] held
-    ∙ ap (λ l. slice_index_or l i []) c.as_chunks.ensures.front ∙ inner_block blake2s m i more)
+    ∙ ap (λ l. slice_index_or l i []) c.as_chunks.ensures.front
+    ∙ inner_block-is_chunk blake2s m i more)
     (omega arith)
 
 pub returns : goal.returns
@@ -35,9 +38,10 @@ returns c =
     let last : n ≡ block_count blake2s (length m) - 1 =
     omega (arith, all, c.saturating_sub-inner.ensures) in
     let place : 64 * inner ≡ n * 64 = omega (arith, all) in
-    whole_end blake2s (chaining_words c.args.h.now) c.args.counted m n _ _ _ _ (final false)
+    last_chain-after_last_block blake2s (chaining_words c.args.h.now) c.args.counted m n _ _ _ _
+    (final false)
     c.loop-i.invariant last
     (c.compress-2.ensures ∙ ap (compress blake2s _ _ _) c.last_block.ensures)
     (c.padded-block.ensures ∙ ap (padded 64) (take_rest m (64 * inner))
     ∙ ap (λ (k : ℕ). padded 64 (drop k m)) place
-    ∙ last_block blake2s m n last) (omega arith)
+    ∙ last_block-is_padded_rest blake2s m n last) (omega arith)

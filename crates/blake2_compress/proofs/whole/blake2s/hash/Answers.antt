@@ -4,7 +4,7 @@ use Rattle.blake2_simd.specs.Family.{blake2s}
 use Rattle.blake2_simd.specs.Rows.{chaining_words}
 use Rattle.blake2_compress.specs.Hash.{data_bytes, final, last_chain, start}
 use Rattle.blake2_compress.specs.Views.{key_of}
-use Rattle.blake2_compress.proofs.WholeMessages.{no_key, whole_digest}
+use Rattle.blake2_compress.proofs.WholeMessages.{data_bytes-without_key, digest-from_last_chain}
 use Rattle.blake2_compress.proofs.whole.blake2s.hash.Goals.{in-None, in-Some}
 use Rattle.blake2_compress.proofs.whole.blake2s.hash.Goals as goal
 
@@ -17,9 +17,9 @@ returns c =
     let run : chaining_words c.match-key.h ≡ after (data_bytes blake2s key m) =
     elim c.match-key.branch [
       | in-None w ↦ ap chaining_words w.h-is ∙ w.compress_all.ensures
-          ∙ ap after (no_key blake2s key m (ap key_of w.in-None.is))
+          ∙ ap after (data_bytes-without_key blake2s key m (ap key_of w.in-None.is))
       | in-Some w ↦ ap chaining_words w.h-is ∙ w.absorb_keyed.ensures
           ∙ ap (λ k. after (data_bytes blake2s k m)) (sym (ap key_of w.in-Some.is))
     ] in
-    whole_digest blake2s c.args.output_size key m begun _ _ c.to_bytes.ensures
+    digest-from_last_chain blake2s c.args.output_size key m begun _ _ c.to_bytes.ensures
     (c.start_rows-h.ensures ∙ ap (start blake2s) c.parameters.ensures) run

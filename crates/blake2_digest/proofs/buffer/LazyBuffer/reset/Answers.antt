@@ -4,10 +4,11 @@ use Rattle.std.proofs.lemmas.List.{length-take-le, take-append-drop, replicate-a
 use Rattle.blake2_digest.proofs.buffer.LazyBuffer.reset.Goals as goal
 
 -- If the first n bytes of a block are zero, and the rest is, the whole block is zero.
-all_zero : (n size : ℕ) (block p : List ℕ) → n ≤ size → length block ≡ size → take n block ≡ p
+block-is_all_zero : (n size : ℕ) (block p : List ℕ) → n ≤ size → length block ≡ size
+    → take n block ≡ p
     → p ≡ replicate (length p) 0
     → drop n block ≡ replicate (size - n) 0 → block ≡ replicate (size - 0) 0
-all_zero n size block p fits whole first zeros rest =
+block-is_all_zero n size block p fits whole first zeros rest =
     let number : length p ≡ n = sym (ap length first) ∙ length-take-le n block (omega arith) in
     let sum : length p + (size - n) ≡ size - 0 = omega arith in
     let joined : p ++ drop n block ≡ replicate (size - 0) 0 =
@@ -19,6 +20,6 @@ pub invariant_of-self : goal.invariant_of-self
 invariant_of-self g c = (
   c.self.invariant.0,
   omega arith,
-  all_zero c.self.inside.pos g.row.B c.self.inside.bytes _
+  block-is_all_zero c.self.inside.pos g.row.B c.self.inside.bytes _
       c.self.invariant.1 c.self.told c.self.view_is c.wipe.ensures.wiped c.self.invariant.2,
 )

@@ -1,6 +1,6 @@
 use Rattle.std.proofs.Common.{◌≡◌, ◌-◌, ◌*◌, ◌≤◌, ◌++◌, length, take, drop}
 use Rattle.blake2.specs.Family.{blake2b}
-use Rattle.blake2_ffi.specs.SeveralMessages.{digests_given}
+use Rattle.blake2_ffi.specs.SeveralMessages.{digests_by_state_parameters}
 use Rattle.blake2_ffi.proofs.blake2b.many.write_all.Given as goal
 
 -- The digests of the first messages are written, and what follows them is as it was.
@@ -8,7 +8,7 @@ abbrev pub invariant-loop-done : goal.invariant-loop-done
 invariant-loop-done l = record {
   within : l.done ≤ length l.messages;
   long : length l.out ≡ length l.fn.out;
-  written : l.out ≡ digests_given blake2b l.given (take l.done l.messages)
+  written : l.out ≡ digests_by_state_parameters blake2b l.given (take l.done l.messages)
       ++ drop (l.done * l.given.output_size) l.fn.out;
 }
 

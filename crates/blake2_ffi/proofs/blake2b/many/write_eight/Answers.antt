@@ -1,13 +1,13 @@
 use Rattle.std.proofs.Common.{[], ◌∷◌, ap, ◌∙◌, rules}
 use Rattle.blake2_compress.specs.Hash.{digest}
 use Rattle.blake2.specs.Family.{blake2b}
-use Rattle.blake2_ffi.proofs.DigestsInTurn.{lanes_written}
+use Rattle.blake2_ffi.proofs.DigestsInTurn.{written_lanes-are_first_digests}
 use Rattle.blake2_ffi.proofs.blake2b.many.write_eight.Goals as goal
 
 pub returns-clause-digests : goal.returns-clause-digests
 returns-clause-digests c = λ yes.
     let of = digest blake2b c.args.given.now.output_size in
-    lanes_written 8 _ _ _ c.args.messages.now _ _ c.requires.enough (search rules)
+    written_lanes-are_first_digests 8 _ _ _ c.args.messages.now _ _ c.requires.enough (search rules)
     (c.hash_eight_sized.ensures ∙
     (λ i. ap of c.input.ensures i
     ∷ ap of c.input-2.ensures i

@@ -1,13 +1,14 @@
 use Rattle.std.proofs.Common.{[], ◌∷◌, ap, ◌∙◌, rules}
 use Rattle.blake2_compress.specs.Hash.{digest}
 use Rattle.blake2.specs.Family.{blake2s}
-use Rattle.blake2_ffi.proofs.DigestsInTurn.{lanes_written}
+use Rattle.blake2_ffi.proofs.DigestsInTurn.{written_lanes-are_first_digests}
 use Rattle.blake2_ffi.proofs.blake2s.many.write_next.Goals as goal
 
 pub returns-then-accepts_eight-clause-digests : goal.returns-then-accepts_eight-clause-digests
 returns-then-accepts_eight-clause-digests c =
     let of = digest blake2s c.args.given.now.output_size in
-    lanes_written 8 _ _ _ c.args.messages.now _ _ c.if-messages-ge8.true (search rules)
+    written_lanes-are_first_digests 8 _ _ _ c.args.messages.now _ _ c.if-messages-ge8.true
+    (search rules)
     (c.hash_eight_sized.ensures ∙
     (λ i. ap of c.input.ensures i
     ∷ ap of c.input-then-messages-ge8.ensures i

@@ -1,8 +1,8 @@
 use Rattle.std.proofs.Common.{◌≡◌, ℕ, List, [], ◌∷◌, length, slice_index_or, ap, ◌∙◌, rules}
 use Rattle.blake2_simd.specs.Family.{blake2b}
 use Rattle.blake2_simd.specs.Lanes.{in_lane}
-use Rattle.blake2_simd.proofs.Lanes.{in_four, listed_in_four}
-use Rattle.blake2_compress.proofs.Lanes.{lane_is}
+use Rattle.blake2_simd.proofs.Lanes.{for_each_of_four_lanes, list_of_four-at_lane}
+use Rattle.blake2_compress.proofs.Lanes.{in_lane-equal_by_words}
 use Rattle.blake2_parallel.specs.LeafStates.{leaf_chain}
 use Rattle.blake2_parallel.proofs.lanes.blake2bp.compress_by_leaf.Goals as goal
 
@@ -14,11 +14,14 @@ returns c j lane =
     let rows : List (List ℕ) = c.args.rows.now in
     let words : List (List ℕ) = c.compress_leaf.result ∷ c.compress_leaf-2.result
     ∷ c.compress_leaf-3.result ∷ c.compress_leaf-4.result ∷ [] in
-    let long = in_four (λ m. length (slice_index_or words m []) ≡ 8) (search rules) (search rules)
+    let long =
+    for_each_of_four_lanes (λ m. length (slice_index_or words m []) ≡ 8) (search rules)
+    (search rules)
     (search rules) (search rules) j lane in
-    lane_is 8 j c.interleave-all.result (slice_index_or words j []) (search rules) long
+    in_lane-equal_by_words 8 j c.interleave-all.result (slice_index_or words j []) (search rules)
+    long
     (λ k lt. c.interleave-all.ensures j k lane lt)
-    ∙ listed_in_four (λ m. leaf_chain blake2b (in_lane m rows) t bytes m n) _ _ _ _
+    ∙ list_of_four-at_lane (λ m. leaf_chain blake2b (in_lane m rows) t bytes m n) _ _ _ _
     (c.compress_leaf.ensures ∙ ap (λ h. leaf_chain blake2b h t bytes 0 n) c.lane_rows.ensures)
     (c.compress_leaf-2.ensures ∙ ap (λ h. leaf_chain blake2b h t bytes 1 n) c.lane_rows-2.ensures)
     (c.compress_leaf-3.ensures ∙ ap (λ h. leaf_chain blake2b h t bytes 2 n) c.lane_rows-3.ensures)

@@ -1,16 +1,17 @@
 use Rattle.std.proofs.Common.{◌≡◌, ◌<◌, ℕ, ◌+◌, ◌*◌, List, ap, ◌∙◌, arith}
 use Rattle.blake2_simd.specs.Family.{blake2b}
 use Rattle.blake2_simd.specs.Lanes.{in_lane}
-use Rattle.blake2_simd.proofs.Lanes.{listed_in_four}
+use Rattle.blake2_simd.proofs.Lanes.{list_of_four-at_lane}
 use Rattle.blake2_compress.specs.Hash.{compress as F}
 use Rattle.blake2_compress.specs.MessagePieces.{piece}
-use Rattle.blake2_compress.proofs.Lanes.{inner_at}
+use Rattle.blake2_compress.proofs.Lanes.{flags_at-inner}
 use Rattle.blake2_parallel.specs.LeafStates.{leaf_chain}
-use Rattle.blake2_parallel.proofs.LongerRuns.{chunk_read, leaf_chain-more, leaf_chain-none}
+use Rattle.blake2_parallel.proofs.LongerRuns.{get_or-chunk_is_piece, leaf_chain-one_stripe_more}
+use Rattle.blake2_parallel.proofs.LongerRuns.{leaf_chain-of_no_stripes}
 use Rattle.blake2_parallel.proofs.lanes.blake2bp.compress_in_lanes.Goals as goal
 
 pub loop-i-init : goal.loop-i-init
-loop-i-init c j lane = leaf_chain-none blake2b _ c.args.counter c.args.bytes.now j
+loop-i-init c j lane = leaf_chain-of_no_stripes blake2b _ c.args.counter c.args.bytes.now j
 
 pub loop-i-preserved : goal.loop-i-preserved
 loop-i-preserved c j lane =
@@ -18,13 +19,13 @@ loop-i-preserved c j lane =
     let i : ℕ = c.loop-i.i in
     let chunks = c.as_chunks.ensures in
     let at = λ (m k : ℕ) (d : List ℕ) (lt : m < 4) (is : k ≡ i * 4 + m).
-    chunk_read 128 _ k c.as_chunks.result.0.now bytes d chunks.front chunks.front_len
+    get_or-chunk_is_piece 128 _ k c.as_chunks.result.0.now bytes d chunks.front chunks.front_len
     (omega (arith, c.requires.whole, lt, is, c.loop-i-test.true)) ∙ ap (piece 128 bytes) is in
-    let block = listed_in_four (λ m. piece 128 bytes (i * 4 + m)) _ _ _ _
+    let block = list_of_four-at_lane (λ m. piece 128 bytes (i * 4 + m)) _ _ _ _
     (at 0 _ _ (omega arith) (omega arith)) (at 1 _ _ (omega arith) (omega arith))
     (at 2 _ _ (omega arith) (omega arith)) (at 3 _ _ (omega arith) (omega arith)) j lane in
-    leaf_chain-more blake2b _ c.args.counter bytes j i _ _ _ _ (c.loop-i.invariant j lane)
-    (c.compress.ensures j lane ∙ ap (F blake2b _ _ _) (inner_at 4 j)) block (omega arith)
+    leaf_chain-one_stripe_more blake2b _ c.args.counter bytes j i _ _ _ _ (c.loop-i.invariant j lane)
+    (c.compress.ensures j lane ∙ ap (F blake2b _ _ _) (flags_at-inner 4 j)) block (omega arith)
 
 pub returns : goal.returns
 returns c j lane =

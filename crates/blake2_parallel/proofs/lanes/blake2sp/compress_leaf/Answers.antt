@@ -4,11 +4,12 @@ use Rattle.blake2_simd.specs.Family.{blake2s}
 use Rattle.blake2_simd.specs.Rows.{chaining_words}
 use Rattle.blake2_compress.specs.MessagePieces.{piece}
 use Rattle.blake2_parallel.specs.LeafStates.{leaf_chain}
-use Rattle.blake2_parallel.proofs.LongerRuns.{chunk_read, leaf_chain-more, leaf_chain-none}
+use Rattle.blake2_parallel.proofs.LongerRuns.{get_or-chunk_is_piece, leaf_chain-one_stripe_more}
+use Rattle.blake2_parallel.proofs.LongerRuns.{leaf_chain-of_no_stripes}
 use Rattle.blake2_parallel.proofs.lanes.blake2sp.compress_leaf.Goals as goal
 
 pub loop-i-init : goal.loop-i-init
-loop-i-init c = leaf_chain-none blake2s _ c.args.counter c.args.bytes.now c.args.j
+loop-i-init c = leaf_chain-of_no_stripes blake2s _ c.args.counter c.args.bytes.now c.args.j
 
 pub loop-i-preserved : goal.loop-i-preserved
 loop-i-preserved c =
@@ -16,9 +17,9 @@ loop-i-preserved c =
     let i : ℕ = c.loop-i.i in
     let chunks = c.as_chunks.ensures in
     let is : 8 * i + c.args.j ≡ i * 8 + c.args.j = omega arith in
-    leaf_chain-more blake2s _ c.args.counter bytes c.args.j i _ _ _ _ c.loop-i.invariant
+    leaf_chain-one_stripe_more blake2s _ c.args.counter bytes c.args.j i _ _ _ _ c.loop-i.invariant
     c.compress.ensures
-    (chunk_read 64 _ (8 * i + c.args.j) c.as_chunks.result.0.now bytes _ chunks.front
+    (get_or-chunk_is_piece 64 _ (8 * i + c.args.j) c.as_chunks.result.0.now bytes _ chunks.front
     chunks.front_len (omega (arith, c.requires.whole, c.requires.lane, c.loop-i-test.true))
     ∙ ap (piece 64 bytes) is) (omega arith)
 

@@ -3,10 +3,10 @@ use Rattle.std.proofs.Common.{arith, rules}
 use Rattle.std.specs.Borrow.{Bor}
 use Rattle.blake2_simd.specs.Family.{blake2s}
 use Rattle.blake2_simd.specs.Lanes.{in_lane}
-use Rattle.blake2_simd.proofs.Lanes.{in_eight, listed_in_eight}
+use Rattle.blake2_simd.proofs.Lanes.{for_each_of_eight_lanes, list_of_eight-at_lane}
 use Rattle.blake2_compress.specs.Hash.{Flags, compress as F}
 use Rattle.blake2_compress.specs.Lanes.{flags_at, texts}
-use Rattle.blake2_compress.proofs.Lanes.{lane_is, text_at}
+use Rattle.blake2_compress.proofs.Lanes.{in_lane-equal_by_words, texts-at}
 use Rattle.blake2_parallel.proofs.lanes.blake2sp.compress_one_by_one.Goals as goal
 
 pub returns : goal.returns
@@ -17,7 +17,7 @@ returns c j lane =
     let flags : ℕ → Flags = flags_at c.args.flags.now in
     let eight : length c.args.blocks.now ≡ 8 = search rules in
     let at = λ (m : ℕ) (d : Bor (List ℕ)) (lt : m < 8).
-    text_at c.args.blocks.now m d (omega (arith, eight, lt)) in
+    texts-at c.args.blocks.now m d (omega (arith, eight, lt)) in
     let wanted : ℕ → List ℕ = λ m. F blake2s (in_lane m rows) (text m) (count m) (flags m) in
     let done : (m : ℕ) (h b : List ℕ) → h ≡ in_lane m rows → b ≡ text m
     → F blake2s h b (count m) (flags m) ≡ wanted m =
@@ -25,12 +25,15 @@ returns c j lane =
     let words : List (List ℕ) = c.compress_one.result ∷ c.compress_one-2.result ∷
     c.compress_one-3.result ∷ c.compress_one-4.result ∷ c.compress_one-5.result ∷
     c.compress_one-6.result ∷ c.compress_one-7.result ∷ c.compress_one-8.result ∷ [] in
-    let long = in_eight (λ m. length (slice_index_or words m []) ≡ 8) (search rules) (search rules)
+    let long =
+    for_each_of_eight_lanes (λ m. length (slice_index_or words m []) ≡ 8) (search rules)
+    (search rules)
     (search rules) (search rules) (search rules) (search rules) (search rules) (search rules) j lane
     in
-    lane_is 8 j c.interleave-all.result (slice_index_or words j []) (search rules) long
+    in_lane-equal_by_words 8 j c.interleave-all.result (slice_index_or words j []) (search rules)
+    long
     (λ k lt. c.interleave-all.ensures j k lane lt)
-    ∙ listed_in_eight wanted _ _ _ _ _ _ _ _
+    ∙ list_of_eight-at_lane wanted _ _ _ _ _ _ _ _
     (c.compress_one.ensures ∙ done 0 _ _ c.lane_rows.ensures (at 0 _ (omega arith)))
     (c.compress_one-2.ensures ∙ done 1 _ _ c.lane_rows-2.ensures (at 1 _ (omega arith)))
     (c.compress_one-3.ensures ∙ done 2 _ _ c.lane_rows-3.ensures (at 2 _ (omega arith)))

@@ -2,11 +2,11 @@ use Rattle.std.proofs.Common.{◌≡◌, ◌<◌, ◌+◌, ◌-◌, ◌*◌, min
 use Rattle.std.proofs.Common.{◌∙◌, arith}
 use Rattle.blake2_simd.specs.Family.{blake2s}
 use Rattle.blake2_simd.specs.Lanes.{in_lane}
-use Rattle.blake2_simd.proofs.Lanes.{in_eight, listed_in_eight}
+use Rattle.blake2_simd.proofs.Lanes.{for_each_of_eight_lanes, list_of_eight-at_lane}
 use Rattle.blake2_compress.specs.Hash.{compress as F}
 use Rattle.blake2_compress.specs.Lanes.{flags_at}
 use Rattle.blake2_compress.specs.MessagePieces.{piece}
-use Rattle.blake2_parallel.proofs.LongerRuns.{chunk_read}
+use Rattle.blake2_parallel.proofs.LongerRuns.{get_or-chunk_is_piece}
 use Rattle.blake2_parallel.proofs.lanes.blake2sp.compress_stripe.Goals as goal
 
 pub returns : goal.returns
@@ -16,16 +16,16 @@ returns c j lane =
     let k : ℕ = c.args.n in
     let chunks = c.as_chunks.ensures in
     let at = λ (m : ℕ) (d : List ℕ) (lt : m < 8).
-    chunk_read 64 _ m c.as_chunks.result.0.now stripe d chunks.front chunks.front_len
+    get_or-chunk_is_piece 64 _ m c.as_chunks.result.0.now stripe d chunks.front chunks.front_len
     (omega (arith, lt, c.requires.whole)) in
-    let block = listed_in_eight (piece 64 stripe) _ _ _ _ _ _ _ _
+    let block = list_of_eight-at_lane (piece 64 stripe) _ _ _ _ _ _ _ _
     (at 0 _ (omega arith)) (at 1 _ (omega arith)) (at 2 _ (omega arith)) (at 3 _ (omega arith))
     (at 4 _ (omega arith)) (at 5 _ (omega arith)) (at 6 _ (omega arith)) (at 7 _ (omega arith)) j lane
     in
     let counts : List ℕ = (n + c.part.result) ∷ (n + c.part-2.result) ∷ (n + c.part-3.result)
     ∷ (n + c.part-4.result) ∷ (n + c.part-5.result) ∷ (n + c.part-6.result) ∷ (n + c.part-7.result)
     ∷ (n + c.part-8.result) ∷ [] in
-    let count = in_eight (λ m. slice_index counts m ≡ n + min 64 (k - m * 64))
+    let count = for_each_of_eight_lanes (λ m. slice_index counts m ≡ n + min 64 (k - m * 64))
     (omega (arith, c.part.ensures)) (omega (arith, c.part-2.ensures))
     (omega (arith, c.part-3.ensures)) (omega (arith, c.part-4.ensures))
     (omega (arith, c.part-5.ensures)) (omega (arith, c.part-6.ensures))

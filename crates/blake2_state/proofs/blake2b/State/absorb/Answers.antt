@@ -1,12 +1,13 @@
 use Rattle.std.proofs.Common.{refl, arith}
 use Rattle.std.proofs.lemmas.List.{length-take-le}
-use Rattle.blake2_state.proofs.StateLaws.{Updated_absorbed}
+use Rattle.blake2_state.proofs.StateLaws.{Updated-from_absorbed_core}
 use Rattle.blake2_state.proofs.blake2b.State.absorb.Goals as goal
 
 pub returns-clause-updated : goal.returns-clause-updated
 returns-clause-updated c =
     let held = c.digest_into-held.ensures in
-    Updated_absorbed _ _ _ c.core-core.ensures held.handed held.pending c.chain_words-self.ensures
+    Updated-from_absorbed_core _ _ _ c.core-core.ensures held.handed held.pending
+    c.chain_words-self.ensures
     c.counted-self.ensures refl refl
 
 pub returns-clause-ready : goal.returns-clause-ready

@@ -2,7 +2,7 @@ use Rattle.std.proofs.Common.{◌≡◌, refl, sym, ap, ◌∙◌}
 use Rattle.blake2.specs.States.{node_set}
 use Rattle.blake2_state.specs.Blake2b.{state_of}
 use Rattle.blake2_state.specs.States.{is_on}
-use Rattle.blake2_state.proofs.StateLaws.{NodeSet_sized}
+use Rattle.blake2_state.proofs.StateLaws.{NodeSet-from_set_state}
 use Rattle.blake2_state.proofs.blake2b.State.set_last_node.Goals as goal
 use Rattle.blake2_state.proofs.blake2b.State.set_last_node.Goals.{then-on, else-on}
 
@@ -12,4 +12,4 @@ returns-clause-set c =
       | then-on w ↦ ap is_on w.self-is ∙ sym w.if-on.true
       | else-on w ↦ ap is_on w.self-is ∙ sym w.if-on.false
     ] in
-    NodeSet_sized _ _ _ refl (ap (node_set (state_of c.args.self.now)) flag)
+    NodeSet-from_set_state _ _ _ refl (ap (node_set (state_of c.args.self.now)) flag)

@@ -2,13 +2,13 @@ use Rattle.std.proofs.Common.{refl, ap, ◌∙◌}
 use Rattle.blake2_simd.specs.Family.{blake2b}
 use Rattle.blake2_state.specs.States.{named_key_size}
 use Rattle.blake2_compress.specs.Views.{given_parameters}
-use Rattle.blake2_state.proofs.StateLaws.{Fresh_unkeyed, named_by-parameters}
+use Rattle.blake2_state.proofs.StateLaws.{Fresh-without_key, named_key_size-of_parameters}
 use Rattle.blake2_state.proofs.blake2b.State.unkeyed.Goals as goal
 
 pub returns-clause-fresh : goal.returns-clause-fresh
 returns-clause-fresh c =
     rw c.from_start_words.ensures
-    (Fresh_unkeyed _ _ _ (given_parameters c.args.parameters.now) c.requires.keyless
+    (Fresh-without_key _ _ _ (given_parameters c.args.parameters.now) c.requires.keyless
     c.from_parameters-core.ensures c.first_words.ensures refl refl)
 
 pub returns-clause-key : goal.returns-clause-key
@@ -16,4 +16,4 @@ returns-clause-key c =
     let parameters = given_parameters c.args.parameters.now in
     rw c.from_start_words.ensures
     (ap (named_key_size blake2b) (c.first_words.ensures ∙ ap (λ core. core.start) c.from_parameters-core.ensures)
-    ∙ named_by-parameters blake2b parameters c.requires.admitted.fits)
+    ∙ named_key_size-of_parameters blake2b parameters c.requires.admitted.fits)

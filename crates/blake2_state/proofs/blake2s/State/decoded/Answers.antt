@@ -3,7 +3,7 @@ use Rattle.std.proofs.Common.{◌≡◌, ◌∙◌, ℕ, ◌-◌, List, length, 
 use Rattle.std.proofs.lemmas.List.{length-take-le, take_all}
 use Rattle.std.specs.Int.{from_le_bytes, w64}
 use Rattle.blake2_digest.specs.Texts.{padded}
-use Rattle.blake2_compress.proofs.Padding.{padded-whole}
+use Rattle.blake2_compress.proofs.Padding.{padded-unchanged_at_length}
 use Rattle.blake2_state.proofs.SavedBlake2s.{decoded}
 use Rattle.blake2_state.proofs.blake2s.State.decoded.Goals as goal
 
@@ -14,10 +14,10 @@ returns c =
     let counter : length (take 8 (drop 72 saved)) ≡ 8 =
     length-take-le 8 (drop 72 saved) (omega (arith, whole, length-drop 72 saved)) in
     let pending : length (drop 83 saved) ≡ 64 = omega (arith, whole, length-drop 83 saved) in
-    let read = c.padded.ensures ∙ padded-whole 8 (take 8 (drop 72 saved)) counter in
+    let read = c.padded.ensures ∙ padded-unchanged_at_length 8 (take 8 (drop 72 saved)) counter in
     let at_end = c.padded-2.ensures
     ∙ ap (padded 64) (take_all (length saved - 83) (drop 83 saved) (omega arith))
-    ∙ padded-whole 64 (drop 83 saved) pending in
+    ∙ padded-unchanged_at_length 64 (drop 83 saved) pending in
     let chain = c.to_words.ensures ∙ c.block_rows.ensures in
     let first = c.to_words-2.ensures ∙ c.block_rows-2.ensures in
     let counted = c.from_le_bytes.ensures ∙ ap (from_le_bytes w64) read in

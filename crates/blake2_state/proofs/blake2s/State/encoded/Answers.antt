@@ -8,10 +8,11 @@ use Rattle.blake2_compress.specs.Hash.{bytes_of}
 use Rattle.blake2_compress.proofs.RunSizes.{length-bytes_of}
 use Rattle.blake2_digest.specs.Texts.{padded}
 use Rattle.blake2_state.specs.Blake2s.{state_of}
-use Rattle.blake2_state.specs.SavedStates.{flag_byte, heading}
+use Rattle.blake2_state.specs.SavedStates.{flag_byte, saved_state_prefix}
 use Rattle.blake2_state.specs.States.{is_on}
 use Rattle.blake2_state.specs.declared.blake2s.State.{State}
-use Rattle.blake2_state.proofs.SavedLaws.{encoding_written, flag_written, zeros_padded}
+use Rattle.blake2_state.proofs.SavedLaws.{padded_fields-are_encoding, bool_byte-is_flag_byte}
+use Rattle.blake2_state.proofs.SavedLaws.{zeros-are_padded_empty_list}
 use Rattle.blake2_state.proofs.blake2s.State.encoded.Goals as goal
 
 pub returns : goal.returns
@@ -22,7 +23,7 @@ returns c =
     let whole : length s.pending ≡ 64 = search rules in
     let lp : length (take s.pending_length s.pending) ≡ s.pending_length =
     length-take-le s.pending_length s.pending (omega (arith, whole, c.requires.pending)) in
-    let name : List ℕ = heading blake2s in
+    let name : List ℕ = saved_state_prefix blake2s in
     let chain : List ℕ = bytes_of blake2s s.chain in
     let first : List ℕ = bytes_of blake2s s.first in
     let counted : List ℕ = to_le_bytes w64 s.counter in
@@ -38,7 +39,7 @@ returns c =
     omega (arith, at_count, length-append (name ++ chain ++ first) counted) in
     let at_pending : length (name ++ chain ++ first ++ counted ++ numbers) ≡ 83 =
     omega (arith, at_numbers, length-append (name ++ chain ++ first ++ counted) numbers) in
-    let to_chain = c.write_after.ensures [] refl (zeros_padded 147) in
+    let to_chain = c.write_after.ensures [] refl (zeros-are_padded_empty_list 147) in
     let to_first = c.write_after-2.ensures name refl to_chain
     ∙ ap (λ (xs : List ℕ). padded 147 (name ++ xs))
     (c.to_bytes.ensures ∙ ap (bytes_of blake2s) c.to_rows.ensures) in
@@ -50,7 +51,7 @@ returns c =
     let to_pending =
     c.write_after-5.ensures (name ++ chain ++ first ++ counted) at_numbers to_numbers
     ∙ ap (λ (n : ℕ). padded 147 (name ++ chain ++ first ++ counted
-    ++ (s.output_size ∷ s.pending_length ∷ n ∷ []))) (flag_written (is_on s.last_node)) in
+    ++ (s.output_size ∷ s.pending_length ∷ n ∷ []))) (bool_byte-is_flag_byte (is_on s.last_node)) in
     c.write_after-6.ensures (name ++ chain ++ first ++ counted ++ numbers) at_pending to_pending
-    ∙ encoding_written blake2s 147 s.output_size s.pending_length (state_of s) lh ls lp
+    ∙ padded_fields-are_encoding blake2s 147 s.output_size s.pending_length (state_of s) lh ls lp
     c.requires.pending refl

@@ -3,16 +3,22 @@ use Rattle.std.proofs.Common.{◌≡◌, List, ℕ, false, arith, rules, refl, s
 use Rattle.blake2_simd.specs.Family.{blake2s}
 use Rattle.blake2_state.specs.Blake2s.{CanBeSaved, saved_bytes, state_of}
 use Rattle.blake2_state.specs.declared.blake2s.State.{State}
-use Rattle.blake2_state.proofs.SavedLaws.{Reads, held_read, saved_reads}
-use Rattle.blake2_state.proofs.SavedBlake2s.{HasFields, decoded, decoded_can_be_saved}
-use Rattle.blake2_state.proofs.SavedBlake2s.{decoded_has_fields}
-use Rattle.blake2_state.proofs.SavedBlake2s.{decoded_is_saved_as, decoded_holds_no_more, savable}
+use Rattle.blake2_state.proofs.SavedLaws.{BytesDecodeTo, decoded_state-is_encoded_state}
+use Rattle.blake2_state.proofs.SavedLaws.{saved_bytes-decode_to_state}
+use Rattle.blake2_state.proofs.SavedBlake2s.{HasWellTypedFields, decoded, decoded-can_be_saved}
+use Rattle.blake2_state.proofs.SavedBlake2s.{decoded-has_well_typed_fields}
+use Rattle.blake2_state.proofs.SavedBlake2s.{decoded-is_saved_as_bytes}
+use Rattle.blake2_state.proofs.SavedBlake2s.{decoded-holds_only_saved_data, CanBeSaved-is_savable}
 use Rattle.blake2_state.proofs.blake2s.State.load.Goals as goal
 
 pub returns-then-saved-ne147-clause-accepted : goal.returns-then-saved-ne147-clause-accepted
 returns-then-saved-ne147-clause-accepted c = (
   λ none. absurd (search rules),
-  λ a. absurd (omega (arith, (saved_reads blake2s c.args.saved.now a).whole, c.if-saved-ne147.true)),
+  λ a. absurd (omega (
+    arith,
+    (saved_bytes-decode_to_state blake2s c.args.saved.now a).whole,
+    c.if-saved-ne147.true,
+  )),
 )
 
 pub returns-then-not-is_saved_as-clause-accepted : goal.returns-then-not-is_saved_as-clause-accepted
@@ -21,7 +27,10 @@ returns-then-not-is_saved_as-clause-accepted c = (
   λ a.
       let saved : List ℕ = c.args.saved.now in
       let facts = subst (λ (s : State). CanBeSaved s × (saved_bytes s ≡ saved))
-      (sym c.decoded-state.ensures) (decoded_can_be_saved saved a, decoded_is_saved_as saved a) in
+      (sym c.decoded-state.ensures) (
+        decoded-can_be_saved saved a,
+        decoded-is_saved_as_bytes saved a,
+      ) in
       let no : c.is_saved_as.result ≡ false = c.if-not-is_saved_as.true in
       absurd (search (rules, no, c.is_saved_as.ensures.1 facts)),
 )
@@ -31,12 +40,12 @@ returns-clause-accepted c =
     let saved : List ℕ = c.args.saved.now in
     let facts = subst (λ (s : State). CanBeSaved s × (saved_bytes s ≡ saved))
     c.decoded-state.ensures (c.is_saved_as.ensures.0 c.if-not-is_saved_as.false) in
-    let t : HasFields (decoded saved) =
-    decoded_has_fields saved c.if-saved-ne147.false (search rules) in (
+    let t : HasWellTypedFields (decoded saved) =
+    decoded-has_well_typed_fields saved c.if-saved-ne147.false (search rules) in (
       λ some. record {
         size = (decoded saved).output_size;
         state = state_of (decoded saved);
-        savable = savable (decoded saved) t facts.0;
+        savable = CanBeSaved-is_savable (decoded saved) t facts.0;
         is = facts.1;
       },
       λ a. refl,
@@ -47,14 +56,18 @@ returns-clause-no_more c =
     let saved : List ℕ = c.args.saved.now in
     let facts = subst (λ (s : State). CanBeSaved s × (saved_bytes s ≡ saved))
     c.decoded-state.ensures (c.is_saved_as.ensures.0 c.if-not-is_saved_as.false) in
-    let t : HasFields (decoded saved) =
-    decoded_has_fields saved c.if-saved-ne147.false (search rules) in
-    rw c.decoded-state.ensures (decoded_holds_no_more saved t facts.0 facts.1)
+    let t : HasWellTypedFields (decoded saved) =
+    decoded-has_well_typed_fields saved c.if-saved-ne147.false (search rules) in
+    rw c.decoded-state.ensures (decoded-holds_only_saved_data saved t facts.0 facts.1)
 
 pub returns-clause-same : goal.returns-clause-same
 returns-clause-same c = λ was.
     let saved : List ℕ = c.args.saved.now in
-    let r : Reads blake2s was.size was.state saved = saved_reads blake2s saved was in
+    let r : BytesDecodeTo blake2s was.size was.state saved =
+    saved_bytes-decode_to_state blake2s saved was in
     subst (λ (s : State). (s.output_size ≡ was.size) × (state_of s ≡ was.state))
-    (sym c.decoded-state.ensures)
-    (r.output_size, held_read blake2s was.size was.state saved was.savable.start r)
+    (sym c.decoded-state.ensures) (
+      r.output_size,
+      decoded_state-is_encoded_state blake2s was.size was.state saved
+          was.savable.start r,
+    )

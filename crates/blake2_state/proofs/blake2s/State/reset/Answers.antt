@@ -1,7 +1,8 @@
 -- Made by tools/twins.py from proofs/blake2b/State/reset/Answers.antt.
 use Rattle.std.proofs.Common.{refl}
-use Rattle.blake2_state.proofs.StateLaws.{StartedAgain_sized}
+use Rattle.blake2_state.proofs.StateLaws.{StartedAgain-from_restarted_state}
 use Rattle.blake2_state.proofs.blake2s.State.reset.Goals as goal
 
 pub returns-clause-reset : goal.returns-clause-reset
-returns-clause-reset c = rw c.write_padded.ensures (StartedAgain_sized _ _ _ refl refl)
+returns-clause-reset c = rw c.write_padded.ensures (StartedAgain-from_restarted_state _ _ _ refl
+    refl)

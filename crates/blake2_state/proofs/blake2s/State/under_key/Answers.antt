@@ -3,12 +3,12 @@ use Rattle.std.proofs.Common.{refl, ap, ◌∙◌}
 use Rattle.blake2_simd.specs.Family.{blake2s}
 use Rattle.blake2_state.specs.States.{named_key_size}
 use Rattle.blake2_compress.specs.Views.{given_parameters}
-use Rattle.blake2_state.proofs.StateLaws.{Fresh_keyed, named_by-parameters}
+use Rattle.blake2_state.proofs.StateLaws.{Fresh-with_key, named_key_size-of_parameters}
 use Rattle.blake2_state.proofs.blake2s.State.under_key.Goals as goal
 
 pub returns-clause-fresh : goal.returns-clause-fresh
 returns-clause-fresh c =
-    Fresh_keyed _ _ _ (given_parameters c.args.parameters.now) c.args.key.now c.requires.key_size
+    Fresh-with_key _ _ _ (given_parameters c.args.parameters.now) c.args.key.now c.requires.key_size
     c.requires.admitted.fits.key_size c.from_parameters-core.ensures c.first_words-first.ensures
     c.padded-block.ensures c.padded-padded_key.ensures refl refl
 
@@ -16,4 +16,4 @@ pub returns-clause-key : goal.returns-clause-key
 returns-clause-key c =
     let parameters = given_parameters c.args.parameters.now in
     ap (named_key_size blake2s) (c.first_words-first.ensures ∙ ap (λ core. core.start) c.from_parameters-core.ensures)
-    ∙ named_by-parameters blake2s parameters c.requires.admitted.fits
+    ∙ named_key_size-of_parameters blake2s parameters c.requires.admitted.fits

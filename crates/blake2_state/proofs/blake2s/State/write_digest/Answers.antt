@@ -7,7 +7,7 @@ use Rattle.blake2_compress.specs.Hash.{bytes_of, compress}
 use Rattle.blake2_compress.specs.Views.{given_flags}
 use Rattle.blake2.specs.Cores.{CoreState}
 use Rattle.blake2.proofs.CoreSteps.{completed-by}
-use Rattle.blake2.proofs.StateLaws.{future-nothing}
+use Rattle.blake2.proofs.StateLaws.{future-without_more_input}
 use Rattle.blake2_state.specs.Blake2s.{state_of}
 use Rattle.blake2_state.proofs.blake2s.State.write_digest.Goals as goal
 
@@ -27,5 +27,5 @@ returns c =
     let whole = c.to_bytes-whole.ensures ∙ ap (λ (core : CoreState). bytes_of blake2s core.h) last in
     ap (λ (z : List ℕ). z ++ drop n c.args.out.now)
     (c.copy_from_slice.ensures.after ∙ ap (take n) whole
-    ∙ future-nothing blake2s n (state_of held)
+    ∙ future-without_more_input blake2s n (state_of held)
     (omega (arith, long, c.requires.ready.pending)))

@@ -4,8 +4,8 @@ use Rattle.blake2_simd.specs.Round.{AreWords}
 use Rattle.blake2_state.specs.Blake2b.{state_of}
 use Rattle.blake2_state.specs.SavedStates.{IsSavedState}
 use Rattle.blake2_state.specs.declared.blake2b.State.{State}
-use Rattle.blake2_state.proofs.SavedLaws.{means_the_same, some_and}
-use Rattle.blake2_state.proofs.SavedBlake2b.{HasFields, savable}
+use Rattle.blake2_state.proofs.SavedLaws.{MeansTheSame-if_states_equal, IsSomeAnd-by_implication}
+use Rattle.blake2_state.proofs.SavedBlake2b.{HasWellTypedFields, CanBeSaved-is_savable}
 use Rattle.blake2_state.proofs.laws.blake2b.loaded_again.Goals as goal
 
 pub returns : goal.returns
@@ -13,7 +13,7 @@ returns c =
     let s : State = c.args.state.now in
     let chain : (i : ℕ) → Fits w64 (get_or c.to_words-chain.result i 0) = search rules in
     let first : (i : ℕ) → Fits w64 (get_or c.to_words-first.result i 0) = search rules in
-    let t : HasFields s = record {
+    let t : HasWellTypedFields s = record {
       chain_length = search rules;
       chain = subst (AreWords blake2b) (c.to_words-chain.ensures ∙ c.to_rows.ensures)
           (λ (i : ℕ). (chain i).fits);
@@ -26,8 +26,12 @@ returns c =
     let was : IsSavedState blake2b c.in_ok-saved.saved = record {
       size = s.output_size;
       state = state_of s;
-      savable = savable s t c.requires;
+      savable = CanBeSaved-is_savable s t c.requires;
       is = sym c.in_ok-saved.ensures.1;
     } in
-    some_and c.load.result (c.load.ensures.accepted.1 was) (c.load.ensures.same was)
-    (λ x h. (means_the_same blake2b (λ (s : State). s.output_size) state_of s x h.0 h.1, h.0))
+    IsSomeAnd-by_implication c.load.result (c.load.ensures.accepted.1 was) (c.load.ensures.same was)
+    (λ x h. (
+      MeansTheSame-if_states_equal blake2b (λ (s : State). s.output_size) state_of s x h.0
+          h.1,
+      h.0,
+    ))

@@ -4,7 +4,7 @@ use Rattle.std.proofs.lemmas.List.{length-take-le, take_rest}
 use Rattle.std.proofs.Math.Nat.{mul-div_left}
 use Rattle.std.specs.Simd.{first_chunks}
 use Rattle.blake2_digest.proofs.Cutting.{first_chunks-take}
-use Rattle.blake2_state.proofs.LaneRuns.{after_first}
+use Rattle.blake2_state.proofs.LaneRuns.{drop_rest-of_held_and_input}
 use Rattle.blake2_state.proofs.many.blake2b.blocks_after.Goals as goal
 
 pub returns : goal.returns
@@ -30,4 +30,4 @@ returns c =
     c.as_chunks.ensures.front ∙ ap (λ (k : ℕ). first_chunks 128 k front) number
     ∙ ap (λ (l : List ℕ). first_chunks 128 n (take (128 * n) l)) same
     ∙ first_chunks-take 128 n (128 * n) rest (omega arith) fits
-    ∙ ap (first_chunks 128 n) (after_first 128 p held x long room)
+    ∙ ap (first_chunks 128 n) (drop_rest-of_held_and_input 128 p held x long room)

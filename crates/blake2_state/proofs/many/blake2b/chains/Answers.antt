@@ -1,6 +1,6 @@
 use Rattle.std.proofs.Common.{◌+◌, ap, ◌∙◌, arith, rules}
 use Rattle.std.proofs.lemmas.List.{get_or_default}
-use Rattle.blake2_compress.proofs.ManyMessages.{filled_all, filled_more}
+use Rattle.blake2_compress.proofs.ManyMessages.{HoldsForFirst-all, HoldsForFirst-next}
 use Rattle.blake2_state.specs.Blake2b.{zeros}
 use Rattle.blake2_state.specs.declared.blake2b.State.{State}
 use Rattle.blake2_state.proofs.many.blake2b.chains.Goals as goal
@@ -9,11 +9,11 @@ pub loop-j-preserved : goal.loop-j-preserved
 loop-j-preserved g c =
     let at = get_or_default c.args.states.now (c.args.from + c.loop-j.j) _ zeros
     (omega (arith, c.requires, c.loop-j-test.true)) in
-    filled_more _ c.loop-j.invariant (omega arith)
+    HoldsForFirst-next _ c.loop-j.invariant (omega arith)
     (search rules, c.chain_of.ensures ∙ ap (λ (s : State). s.chain) at)
 
 pub returns-clause-long : goal.returns-clause-long
-returns-clause-long g c j lt = (filled_all c.loop-j.invariant c.loop-j-test.false j lt).0
+returns-clause-long g c j lt = (HoldsForFirst-all c.loop-j.invariant c.loop-j-test.false j lt).0
 
 pub returns-clause-words : goal.returns-clause-words
-returns-clause-words g c j lt = (filled_all c.loop-j.invariant c.loop-j-test.false j lt).1
+returns-clause-words g c j lt = (HoldsForFirst-all c.loop-j.invariant c.loop-j-test.false j lt).1

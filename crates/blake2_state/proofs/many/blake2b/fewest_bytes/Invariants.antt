@@ -1,8 +1,8 @@
 use Rattle.std.proofs.Common.{◌+◌, ◌<◌, ◌≤◌, ℕ, length}
-use Rattle.blake2_state.specs.Blake2b.{text_at}
+use Rattle.blake2_state.specs.Blake2b.{pending_and_input_at}
 use Rattle.blake2_state.proofs.many.blake2b.fewest_bytes.Given as goal
 
 -- None yet, or the least of those that were looked at.
 abbrev pub invariant-loop-j : goal.invariant-loop-j
 invariant-loop-j l = (k : ℕ) → k < l.j
-    → l.fewest ≤ length (text_at l.states l.inputs (l.from + k))
+    → l.fewest ≤ length (pending_and_input_at l.states l.inputs (l.from + k))

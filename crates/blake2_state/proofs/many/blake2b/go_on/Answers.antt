@@ -6,7 +6,7 @@ use Rattle.blake2_simd.specs.Family.{blake2b}
 use Rattle.blake2_compress.specs.Hash.{chain}
 use Rattle.blake2_digest.specs.States.{Updated}
 use Rattle.blake2_state.specs.Blake2b.{meaning}
-use Rattle.blake2_state.proofs.LaneRuns.{chunks_before}
+use Rattle.blake2_state.proofs.LaneRuns.{first_chunks-unchanged_by_later_input}
 use Rattle.blake2_streams.proofs.StreamLemmas.{Updated-trans}
 use Rattle.blake2_state.proofs.many.blake2b.go_on.Goals as goal
 
@@ -32,7 +32,7 @@ absorb_run-requires-clause-words c =
       c.requires.can.0.pending,
     ) in
     c.requires.words ∙ ap (λ (l : List (List ℕ)). chain blake2b s.chain s.counter l (n + 1))
-    (sym (chunks_before 128 (n + 1) e held x room)
+    (sym (first_chunks-unchanged_by_later_input 128 (n + 1) e held x room)
     ∙ ap (λ (z : List ℕ). first_chunks 128 (n + 1) (held ++ z)) (sym c.split_at.ensures.front))
 
 pub returns : goal.returns

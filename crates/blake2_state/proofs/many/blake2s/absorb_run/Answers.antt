@@ -8,9 +8,10 @@ use Rattle.blake2_simd.specs.Family.{blake2s}
 use Rattle.blake2_digest.specs.Blocks.{compressed_blocks}
 use Rattle.blake2_digest.proofs.Texts.{take-padded}
 use Rattle.blake2.specs.Cores.{CoreState, absorbed}
-use Rattle.blake2_state.specs.Blake2s.{state_of, uncompressed}
-use Rattle.blake2_state.proofs.LaneRuns.{run_count, run_pending, run_words}
-use Rattle.blake2_state.proofs.StateLaws.{Updated_absorbed}
+use Rattle.blake2_state.specs.Blake2s.{state_of, pending_and_input}
+use Rattle.blake2_state.proofs.LaneRuns.{count_of_run-is_absorbed_count, rest_after_run-is_pending}
+use Rattle.blake2_state.proofs.LaneRuns.{chain_of_run-is_absorbed_words}
+use Rattle.blake2_state.proofs.StateLaws.{Updated-from_absorbed_core}
 use Rattle.blake2_state.proofs.many.blake2s.absorb_run.Goals as goal
 
 pub returns : goal.returns
@@ -21,7 +22,7 @@ returns c =
     let p : ℕ = old.pending_length in
     let x : List ℕ = c.args.input.now in
     let held : List ℕ = take p old.pending in
-    let y : List ℕ = uncompressed old x in
+    let y : List ℕ = pending_and_input old x in
     let block : length old.pending ≡ 64 = search rules in
     let long : length held ≡ p = length-take-le p old.pending (omega (arith, block, ready.pending)) in
     let least : (n + 1) * 64 < length y = omega (arith, c.requires.least) in
@@ -48,10 +49,11 @@ returns c =
       };
       size = refl;
       key = refl;
-      updated = Updated_absorbed blake2s (λ s. s.output_size) state_of {old = old} {x = x} {begun = core}
+      updated = Updated-from_absorbed_core blake2s (λ s. s.output_size) state_of {old = old} {x = x}
+          {begun = core}
           {core = absorbed blake2s core (compressed_blocks 64 y)} refl refl
           (ap (take (length sliced)) c.padded-state.ensures ∙ take-padded 64 sliced ∙ same ∙ rest_is
-          ∙ run_pending 64 n y (omega arith) least most)
-          (c.requires.words ∙ run_words blake2s core n y least most)
-          (omega (arith, run_count blake2s core n y least most)) refl refl;
+          ∙ rest_after_run-is_pending 64 n y (omega arith) least most)
+          (c.requires.words ∙ chain_of_run-is_absorbed_words blake2s core n y least most)
+          (omega (arith, count_of_run-is_absorbed_count blake2s core n y least most)) refl refl;
     }

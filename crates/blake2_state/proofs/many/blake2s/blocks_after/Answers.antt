@@ -5,7 +5,7 @@ use Rattle.std.proofs.lemmas.List.{length-take-le, take_rest}
 use Rattle.std.proofs.Math.Nat.{mul-div_left}
 use Rattle.std.specs.Simd.{first_chunks}
 use Rattle.blake2_digest.proofs.Cutting.{first_chunks-take}
-use Rattle.blake2_state.proofs.LaneRuns.{after_first}
+use Rattle.blake2_state.proofs.LaneRuns.{drop_rest-of_held_and_input}
 use Rattle.blake2_state.proofs.many.blake2s.blocks_after.Goals as goal
 
 pub returns : goal.returns
@@ -31,4 +31,4 @@ returns c =
     c.as_chunks.ensures.front ∙ ap (λ (k : ℕ). first_chunks 64 k front) number
     ∙ ap (λ (l : List ℕ). first_chunks 64 n (take (64 * n) l)) same
     ∙ first_chunks-take 64 n (64 * n) rest (omega arith) fits
-    ∙ ap (first_chunks 64 n) (after_first 64 p held x long room)
+    ∙ ap (first_chunks 64 n) (drop_rest-of_held_and_input 64 p held x long room)

@@ -7,7 +7,7 @@ use Rattle.blake2_simd.specs.Family.{blake2s}
 use Rattle.blake2_compress.specs.Hash.{chain}
 use Rattle.blake2_digest.specs.States.{Updated}
 use Rattle.blake2_state.specs.Blake2s.{meaning}
-use Rattle.blake2_state.proofs.LaneRuns.{chunks_before}
+use Rattle.blake2_state.proofs.LaneRuns.{first_chunks-unchanged_by_later_input}
 use Rattle.blake2_streams.proofs.StreamLemmas.{Updated-trans}
 use Rattle.blake2_state.proofs.many.blake2s.go_on.Goals as goal
 
@@ -33,7 +33,7 @@ absorb_run-requires-clause-words c =
       c.requires.can.0.pending,
     ) in
     c.requires.words ∙ ap (λ (l : List (List ℕ)). chain blake2s s.chain s.counter l (n + 1))
-    (sym (chunks_before 64 (n + 1) e held x room)
+    (sym (first_chunks-unchanged_by_later_input 64 (n + 1) e held x room)
     ∙ ap (λ (z : List ℕ). first_chunks 64 (n + 1) (held ++ z)) (sym c.split_at.ensures.front))
 
 pub returns : goal.returns

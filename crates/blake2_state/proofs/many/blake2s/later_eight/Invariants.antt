@@ -2,11 +2,11 @@
 use Rattle.std.proofs.Common.{◌≡◌, ◌+◌, drop}
 use Rattle.std.specs.Simd.{first_chunks}
 use Rattle.blake2_compress.proofs.Lanes.{no_blocks}
-use Rattle.blake2_compress.proofs.ManyMessages.{Filled}
-use Rattle.blake2_state.specs.Blake2s.{text_at}
+use Rattle.blake2_compress.proofs.ManyMessages.{HoldsForFirst}
+use Rattle.blake2_state.specs.Blake2s.{pending_and_input_at}
 use Rattle.blake2_state.proofs.many.blake2s.later_eight.Given as goal
 
 abbrev pub invariant-loop-j : goal.invariant-loop-j
-invariant-loop-j l = Filled 8 no_blocks
-    (λ k x. x.now ≡ first_chunks 64 l.count (drop 64 (text_at l.states l.inputs (l.from + k))))
+invariant-loop-j l = HoldsForFirst 8 no_blocks
+    (λ k x. x.now ≡ first_chunks 64 l.count (drop 64 (pending_and_input_at l.states l.inputs (l.from + k))))
     l.blocks l.j

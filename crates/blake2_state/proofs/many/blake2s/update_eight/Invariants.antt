@@ -1,9 +1,9 @@
 -- Made by tools/twins.py from proofs/many/blake2b/update_eight/Invariants.antt.
 use Rattle.std.proofs.Common.{◌+◌}
 use Rattle.blake2_state.specs.Blake2s.{Absorbed, zeros}
-use Rattle.blake2_state.specs.SeveralStates.{AreUpdated, piece_at}
+use Rattle.blake2_state.specs.SeveralStates.{AreUpdated, input_bytes_at}
 use Rattle.blake2_state.proofs.many.blake2s.update_eight.Given as goal
 
 abbrev pub invariant-loop-j : goal.invariant-loop-j
-invariant-loop-j l = AreUpdated Absorbed zeros l.fn.states (piece_at l.inputs) l.states
+invariant-loop-j l = AreUpdated Absorbed zeros l.fn.states (input_bytes_at l.inputs) l.states
     l.from (l.from + l.j)

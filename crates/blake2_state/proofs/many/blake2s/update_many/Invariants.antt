@@ -1,12 +1,12 @@
 -- Made by tools/twins.py from proofs/many/blake2b/update_many/Invariants.antt.
 use Rattle.std.proofs.Common.{◌-◌, ◌≤◌, length}
 use Rattle.blake2_state.specs.Blake2s.{Absorbed, zeros}
-use Rattle.blake2_state.specs.SeveralStates.{AreUpdated, piece_at}
+use Rattle.blake2_state.specs.SeveralStates.{AreUpdated, input_bytes_at}
 use Rattle.blake2_state.proofs.many.blake2s.update_many.Given as goal
 
 abbrev pub invariant-loop-done : goal.invariant-loop-done
 invariant-loop-done l = (l.done ≤ length l.inputs)
-    × AreUpdated Absorbed zeros l.fn.states (piece_at l.inputs) l.states 0 l.done
+    × AreUpdated Absorbed zeros l.fn.states (input_bytes_at l.inputs) l.states 0 l.done
 
 abbrev pub decreases-loop-done : goal.decreases-loop-done
 decreases-loop-done l = length l.inputs - l.done

@@ -2,7 +2,7 @@ use Rattle.std.proofs.Common.{◌≡◌, ℕ, ◌*◌, ◌/◌, ◌+◌, ◌<◌
 use Rattle.std.proofs.Common.{false, subst}
 use Rattle.std.proofs.lemmas.List.{length-take-le}
 use Rattle.blake2_tree.specs.LeafRanges.{range_digests}
-use Rattle.blake2_tree.proofs.RootsOfCalls.{AreWhole-taken, WentOn-next}
+use Rattle.blake2_tree.proofs.RootsOfCalls.{AreWholeLeaves-take, HasAbsorbedPrefix-k_leaves}
 use Rattle.blake2_state.specs.TreeStates.{count, parameters}
 use Rattle.blake2_state.proofs.tree.TreeState.close_next.Goals as goal
 
@@ -28,7 +28,9 @@ returns-clause-went_on c =
     ap (λ p. p.leaf_length) c.nodes-nodes.ensures in
     let follow : k * l < length c.args.input.now =
     subst (λ n. k * n < length c.args.input.now) same next.more in
-    WentOn-next k some next.some follow c.requires.begun.empty given.begun.empty given.shared
+    HasAbsorbedPrefix-k_leaves k some next.some follow c.requires.begun.empty given.begun.empty
+    given.shared
     (given.count ∙ ap (λ (n : ℕ). count old + n * l) closed)
-    (λ y more. given.future c.requires.begun _ y (AreWhole-taken l k c.args.input.now some next.some
+    (λ y more. given.future c.requires.begun _ y
+    (AreWholeLeaves-take l k c.args.input.now some next.some
     follow) more digests)

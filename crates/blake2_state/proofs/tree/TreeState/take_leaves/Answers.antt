@@ -1,7 +1,7 @@
 use Rattle.std.proofs.Common.{arith}
 use Rattle.blake2_state.specs.Blake2b.{meaning}
 use Rattle.blake2_state.specs.TreeStates.{state_tree}
-use Rattle.blake2_tree.proofs.RootsOfCalls.{Took-updated, Took-rest}
+use Rattle.blake2_tree.proofs.RootsOfCalls.{HasAbsorbed-by_open_leaf, HasAbsorbed-prefix_and_rest}
 use Rattle.blake2_state.proofs.tree.TreeState.take_leaves.Goals as goal
 
 pub loop-self-smaller-then-rest-self : goal.loop-self-smaller-then-rest-self
@@ -25,5 +25,5 @@ loop-self-smaller c =
 pub returns-clause-taken : goal.returns-clause-taken
 returns-clause-taken c =
     let left = c.loop-self.invariant in
-    Took-rest (state_tree c.loop-self.self) left.shared left.future left.count
-    (Took-updated meaning c.loop-self.self.root c.update.ensures.updated (omega arith))
+    HasAbsorbed-prefix_and_rest (state_tree c.loop-self.self) left.shared left.future left.count
+    (HasAbsorbed-by_open_leaf meaning c.loop-self.self.root c.update.ensures.updated (omega arith))

@@ -6,7 +6,7 @@ use Rattle.blake2_compress.specs.Views.{input_of}
 use Rattle.blake2_transcript.specs.StepViews.{entry_of}
 use Rattle.blake2_compress.specs.Run.{step_count}
 use Rattle.blake2_compress.proofs.Runs.{length-steps}
-use Rattle.blake2_transcript.proofs.RunTranscripts.{entry-at}
+use Rattle.blake2_transcript.proofs.RunTranscripts.{run_entries-at}
 use Rattle.blake2_transcript.proofs.steps.entries.entries.Goals as goal
 
 pub loop-i-preserved : goal.loop-i-preserved
@@ -18,7 +18,7 @@ loop-i-preserved g c size =
     let many : length es ≡ step_count g.f a =
     length-map (steps g.f size a) entry ∙ length-steps g.f size a in
     let here : entry_of c.entry_at.result ≡ get_or es i no_entry =
-    c.entry_at.ensures size ∙ sym (entry-at g.f size a i no_entry (omega arith)) in
+    c.entry_at.ensures size ∙ sym (run_entries-at g.f size a i no_entry (omega arith)) in
     ap (map entry_of) c.in_ok-push.ensures.items ∙ map-append entry_of c.loop-i.entries.items _
     ∙ (λ k. c.loop-i.invariant size k ++ here k ∷ []) ∙ sym (take_more es i no_entry (omega arith))
 

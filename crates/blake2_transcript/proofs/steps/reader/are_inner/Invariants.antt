@@ -1,6 +1,6 @@
 use Rattle.std.proofs.Common.{◌<◌, ℕ, map, get_or}
 use Rattle.blake2_transcript.specs.StepViews.{entry_of}
-use Rattle.blake2_transcript.specs.Reader.{IsInner, IsWhole}
+use Rattle.blake2_transcript.specs.Reader.{IsInnerEntry, HasWholeBlock}
 use Rattle.blake2_transcript.specs.Transcript.{no_entry}
 use Rattle.blake2_transcript.proofs.steps.reader.are_inner.Given as goal
 
@@ -9,6 +9,6 @@ ghost-is_inner g a = g.f
 
 abbrev pub invariant-loop-i : goal.invariant-loop-i
 invariant-loop-i g l = record {
-  inner : (k : ℕ) → k < l.i → IsInner g.f k (get_or (map entry_of l.entries) k no_entry);
-  whole : (k : ℕ) → k < l.i → IsWhole g.f (get_or (map entry_of l.entries) k no_entry);
+  inner : (k : ℕ) → k < l.i → IsInnerEntry g.f k (get_or (map entry_of l.entries) k no_entry);
+  whole : (k : ℕ) → k < l.i → HasWholeBlock g.f (get_or (map entry_of l.entries) k no_entry);
 }

@@ -3,7 +3,7 @@ use Rattle.std.proofs.lemmas.List.{length-take-le}
 use Rattle.blake2_tree.specs.NodeViews.{shared_parameters}
 use Rattle.blake2_tree.specs.LeafRanges.{range_digests}
 use Rattle.blake2_tree.specs.TreeHashers.{count}
-use Rattle.blake2_tree.proofs.RootsOfCalls.{AreWhole-taken, WentOn-next}
+use Rattle.blake2_tree.proofs.RootsOfCalls.{AreWholeLeaves-take, HasAbsorbedPrefix-k_leaves}
 use Rattle.blake2_tree.proofs.hasher.TreeHasher.close_next.Goals as goal
 
 pub returns-clause-went_on : goal.returns-clause-went_on
@@ -21,8 +21,9 @@ returns-clause-went_on g c =
     let digests : take (64 * k) c.hash_next-count.new.digests
     ≡ range_digests (shared_parameters old.nodes) old.closed false (take (k * l) c.args.input.now) =
     search rules in
-    WentOn-next k old.nodes.some_length next.some next.more c.requires.empty given.empty
+    HasAbsorbedPrefix-k_leaves k old.nodes.some_length next.some next.more c.requires.empty
+    given.empty
     (ap shared_parameters given.nodes)
     (given.count ∙ ap (λ (n : ℕ). count old + n * l) closed)
-    (λ y some. given.future _ y (AreWhole-taken l k c.args.input.now old.nodes.some_length
+    (λ y some. given.future _ y (AreWholeLeaves-take l k c.args.input.now old.nodes.some_length
     next.some next.more) some digests)

@@ -1,7 +1,8 @@
 use Rattle.std.proofs.Common.{◌∙◌, arith}
 use Rattle.blake2.specs.Hashers.{blake2b_meaning}
 use Rattle.blake2_tree.specs.TreeHashers.{held_tree}
-use Rattle.blake2_tree.proofs.RootsOfCalls.{Took-updated, Took-rest, IsOpened-updated}
+use Rattle.blake2_tree.proofs.RootsOfCalls.{HasAbsorbed-by_open_leaf, HasAbsorbed-prefix_and_rest}
+use Rattle.blake2_tree.proofs.RootsOfCalls.{IsFreshLeaf-after_empty_update}
 use Rattle.blake2_tree.proofs.hasher.TreeHasher.update.Goals as goal
 
 pub loop-rest-preserved-then-rest-four_leaves : goal.loop-rest-preserved-then-rest-four_leaves
@@ -20,10 +21,11 @@ loop-rest-preserved g c = record {
 
 pub invariant_of-self-clause-opened : goal.invariant_of-self-clause-opened
 invariant_of-self-clause-opened g c =
-    IsOpened-updated c.loop-rest.self.opened c.update.ensures
+    IsFreshLeaf-after_empty_update c.loop-rest.self.opened c.update.ensures
 
 pub returns : goal.returns
 returns g c =
     let left = c.loop-rest.invariant in
-    Took-rest (held_tree c.loop-rest.self) left.shared left.future left.count
-    (Took-updated (blake2b_meaning g.row.N) c.loop-rest.self.root c.update.ensures (omega arith))
+    HasAbsorbed-prefix_and_rest (held_tree c.loop-rest.self) left.shared left.future left.count
+    (HasAbsorbed-by_open_leaf (blake2b_meaning g.row.N) c.loop-rest.self.root
+    c.update.ensures (omega arith))

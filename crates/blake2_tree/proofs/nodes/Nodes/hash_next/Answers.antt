@@ -2,9 +2,10 @@ use Rattle.std.proofs.Common.{◌≡◌, ℕ, ◌*◌, List, length, take, sym, 
 use Rattle.std.specs.List.{concat}
 use Rattle.std.proofs.lemmas.List.{take_all, take_at, length-take-le}
 use Rattle.blake2_tree.specs.LeafRanges.{range_digests}
-use Rattle.blake2_tree.specs.NodeViews.{shared_parameters, four_digests, node_digest}
-use Rattle.blake2_tree.proofs.FourLeaves.{next-four, next-eight}
-use Rattle.blake2_tree.proofs.MessageLeaves.{range_digests-short}
+use Rattle.blake2_tree.specs.NodeViews.{shared_parameters, digests_of_four_leaves, node_digest}
+use Rattle.blake2_tree.proofs.FourLeaves.{first_four_leaves-are_range_digests}
+use Rattle.blake2_tree.proofs.FourLeaves.{first_eight_leaves-are_range_digests}
+use Rattle.blake2_tree.proofs.MessageLeaves.{range_digests-single_leaf}
 use Rattle.blake2_tree.proofs.nodes.Nodes.hash_next.Goals as goal
 
 pub returns-then-text-length-clause-digests : goal.returns-then-text-length-clause-digests
@@ -14,7 +15,8 @@ returns-then-text-length-clause-digests c =
     take_all 512 c.copy_from_slice.new.self (omega (arith, size))
     ∙ c.copy_from_slice.ensures.after ∙ c.as_flattened.ensures.value
     ∙ ap concat c.hash_eight.ensures
-    ∙ next-eight (shared_parameters nodes) c.args.i c.args.text.now nodes.some_length
+    ∙ first_eight_leaves-are_range_digests (shared_parameters nodes) c.args.i c.args.text.now
+    nodes.some_length
     (omega (arith, c.if-text-length.true))
 
 pub returns-then-lanes-ge4-clause-digests : goal.returns-then-lanes-ge4-clause-digests
@@ -22,12 +24,13 @@ returns-then-lanes-ge4-clause-digests c =
     let nodes = c.args.self.now in
     let s = shared_parameters nodes in
     let size : length c.copy_from_slice-then-lanes-ge4.new.self ≡ 256 = search rules in
-    let digests : c.hash_four.result ≡ four_digests s c.args.i false c.args.text.now =
+    let digests : c.hash_four.result ≡ digests_of_four_leaves s c.args.i false c.args.text.now =
     search rules in
     take_at c.copy_from_slice-then-lanes-ge4.new.self _ 256 size
     ∙ c.copy_from_slice-then-lanes-ge4.ensures.after ∙ c.as_flattened-then-lanes-ge4.ensures.value
     ∙ ap concat digests
-    ∙ next-four s c.args.i c.args.text.now nodes.some_length (omega (arith, c.requires.more))
+    ∙ first_four_leaves-are_range_digests s c.args.i c.args.text.now nodes.some_length
+    (omega (arith, c.requires.more))
 
 pub returns-else-lanes-ge4-clause-digests : goal.returns-else-lanes-ge4-clause-digests
 returns-else-lanes-ge4-clause-digests c =
@@ -41,6 +44,6 @@ returns-else-lanes-ge4-clause-digests c =
     let one : l ≡ 1 * l = omega arith in
     take_at c.copy_from_slice-else-lanes-ge4.new.self _ 64 size
     ∙ c.copy_from_slice-else-lanes-ge4.ensures.after ∙ is
-    ∙ sym (range_digests-short s c.args.i false (take l text) nodes.some_length
+    ∙ sym (range_digests-single_leaf s c.args.i false (take l text) nodes.some_length
     (omega (arith, length-take-le l text (omega (arith, c.requires.more)))))
     ∙ ap (λ n. range_digests s c.args.i false (take n text)) one

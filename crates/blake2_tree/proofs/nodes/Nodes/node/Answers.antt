@@ -1,7 +1,7 @@
 use Rattle.std.proofs.Common.{ap, arith}
 use Rattle.blake2_compress.specs.Hash.{AreBytes, Tree}
 use Rattle.blake2_tree.specs.NodeViews.{shared_parameters}
-use Rattle.blake2_tree.proofs.NodeLemmas.{AreTaken, Accepts-node}
+use Rattle.blake2_tree.proofs.NodeLemmas.{AreWithinBlake2bLimits, Accepts-node}
 use Rattle.blake2_tree.proofs.nodes.Nodes.node.Goals as goal
 
 pub returns-clause-accepted : goal.returns-clause-accepted
@@ -9,7 +9,7 @@ returns-clause-accepted c =
     let salt = c.as_slice.ensures in
     let persona = c.as_slice-2.ensures in
     let p = shared_parameters c.args.self.now in
-    let taken : AreTaken p = record {
+    let taken : AreWithinBlake2bLimits p = record {
       salt_fits = salt.short;
       persona_fits = persona.short;
       salt_is = salt.are;

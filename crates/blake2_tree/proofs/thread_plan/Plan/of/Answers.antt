@@ -1,4 +1,5 @@
-use Rattle.blake2_tree.proofs.PlanParts.{whole-leaves, some-bytes, are_parts}
+use Rattle.blake2_tree.proofs.PlanParts.{leaves_bytes-multiple_of_leaf, leaves_bytes-are_positive}
+use Rattle.blake2_tree.proofs.PlanParts.{plan-has_parts_within_limits}
 use Rattle.std.proofs.Common.{rules, ◌*◌, ◌≡◌, ◌%◌}
 use Rattle.blake2_tree.proofs.thread_plan.Plan.of.Goals as goal
 
@@ -7,8 +8,10 @@ returns-clause-whole c =
     record {
       some = search rules;
       most = search rules;
-      part = some-bytes c.part_leaves-leaves.result c.from.result (search rules) (search rules);
-      whole = let h : (c.part_leaves-leaves.result * c.from.result) % c.from.result ≡ 0 = whole-leaves c.part_leaves-leaves.result c.from.result in search rules;
+      part = leaves_bytes-are_positive c.part_leaves-leaves.result c.from.result (search rules)
+          (search rules);
+      whole = let h : (c.part_leaves-leaves.result * c.from.result) % c.from.result ≡ 0 =
+          leaves_bytes-multiple_of_leaf c.part_leaves-leaves.result c.from.result in search rules;
       order = search rules;
       fits = search rules;
       flag = search rules;
@@ -17,5 +20,5 @@ returns-clause-whole c =
 
 pub returns-clause-parts : goal.returns-clause-parts
 returns-clause-parts c =
-    are_parts c.args.limits.now c.args.threads c.args.leaf_length c.args.length _
+    plan-has_parts_within_limits c.args.limits.now c.args.threads c.args.leaf_length c.args.length _
     c.requires.leaf_length c.requires.threads (search rules)

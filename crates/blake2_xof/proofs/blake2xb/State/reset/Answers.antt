@@ -2,10 +2,11 @@ use Rattle.std.proofs.Common.{refl}
 use Rattle.blake2_simd.specs.Family.{blake2b}
 use Rattle.blake2_state.specs.Blake2b as Root
 use Rattle.blake2_xof.specs.Blake2xb.{settings_of}
-use Rattle.blake2_xof.proofs.StateLaws.{StartedAgain_by}
+use Rattle.blake2_xof.proofs.StateLaws.{StartedAgain-by_restarted_root_hash}
 use Rattle.blake2_xof.proofs.blake2xb.State.reset.Goals as goal
 
 pub returns-clause-reset : goal.returns-clause-reset
 returns-clause-reset c =
-    StartedAgain_by blake2b Root.meaning (λ s. s.root) (λ s. settings_of s.reader) _ _ refl
+    StartedAgain-by_restarted_root_hash blake2b Root.meaning (λ s. s.root)
+    (λ s. settings_of s.reader) _ _ refl
     c.reset.ensures.reset

@@ -3,10 +3,11 @@ use Rattle.std.proofs.Common.{refl}
 use Rattle.blake2_simd.specs.Family.{blake2s}
 use Rattle.blake2_state.specs.Blake2s as Root
 use Rattle.blake2_xof.specs.Blake2xs.{settings_of}
-use Rattle.blake2_xof.proofs.StateLaws.{StartedAgain_by}
+use Rattle.blake2_xof.proofs.StateLaws.{StartedAgain-by_restarted_root_hash}
 use Rattle.blake2_xof.proofs.blake2xs.State.reset.Goals as goal
 
 pub returns-clause-reset : goal.returns-clause-reset
 returns-clause-reset c =
-    StartedAgain_by blake2s Root.meaning (λ s. s.root) (λ s. settings_of s.reader) _ _ refl
+    StartedAgain-by_restarted_root_hash blake2s Root.meaning (λ s. s.root)
+    (λ s. settings_of s.reader) _ _ refl
     c.reset.ensures.reset

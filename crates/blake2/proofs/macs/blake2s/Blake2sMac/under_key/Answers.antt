@@ -3,7 +3,8 @@ use Rattle.std.proofs.Common.{◌≡◌, Some, ◌∙◌}
 use Rattle.blake2_simd.specs.Family.{blake2s}
 use Rattle.blake2_compress.specs.Hash.{key_block, sequential}
 use Rattle.blake2.specs.Hashers.{blake2s_mac_state}
-use Rattle.blake2.proofs.StateLaws.{same_state, Fresh_by, Fresh_unflagged, length-key_block_some}
+use Rattle.blake2.proofs.StateLaws.{states-equal_by_parts, Fresh_by, Fresh_unflagged}
+use Rattle.blake2.proofs.StateLaws.{length-key_block_some}
 use Rattle.blake2.proofs.macs.blake2s.Blake2sMac.under_key.Goals as goal
 
 pub returns : goal.returns
@@ -13,6 +14,6 @@ returns g c =
     let block : c.padded-block.result ≡ key_block blake2s (Some key) = c.padded-block.ensures in
     Fresh_unflagged _ _ _ _
     (Fresh_by blake2s g.row.N blake2s_mac_state c.args.salt.now c.args.persona.now (Some key)
-    sequential 64 _ (length-key_block_some blake2s key c.requires.key) (same_state
+    sequential 64 _ (length-key_block_some blake2s key c.requires.key) (states-equal_by_parts
     (c.new-2.ensures.core ∙ c.new_with_params-core.ensures)
     (c.new-2.ensures.pending ∙ c.new.ensures ∙ block) (c.new-3.ensures ∙ block)))

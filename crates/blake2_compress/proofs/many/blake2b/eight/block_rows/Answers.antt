@@ -3,12 +3,12 @@ use Rattle.std.proofs.Common.{rules}
 use Rattle.std.specs.Borrow.{Bor}
 use Rattle.blake2_simd.specs.Family.{blake2b}
 use Rattle.blake2_simd.specs.Lanes.{in_lane}
-use Rattle.blake2_simd.proofs.Lanes.{listed_in_eight}
+use Rattle.blake2_simd.proofs.Lanes.{list_of_eight-at_lane}
 use Rattle.blake2_compress.specs.Hash.{words_of}
 use Rattle.blake2_compress.specs.Lanes.{texts}
 use Rattle.blake2_compress.proofs.ByteSizes.{length-words_of}
-use Rattle.blake2_compress.proofs.Lanes.{text_at}
-use Rattle.blake2_compress.proofs.ManyMessages.{two_parts, sixteen_read}
+use Rattle.blake2_compress.proofs.Lanes.{texts-at}
+use Rattle.blake2_compress.proofs.ManyMessages.{in_lane-two_row_lists, sixteen_reads-of_two_lists}
 use Rattle.blake2_compress.proofs.many.blake2b.eight.block_rows.Goals as goal
 
 pub returns : goal.returns
@@ -18,15 +18,16 @@ returns c j h =
     let long_a : length c.interleave_from-a.result ≡ 8 = search rules in
     let long_b : length c.interleave_from-b.result ≡ 8 = search rules in
     let read = λ (k : ℕ) (d : Bor (List ℕ)) (lt : k < 8).
-    ap (words_of blake2b 16) (text_at blocks k d (omega arith)) in
-    let words = listed_in_eight (λ k. words_of blake2b 16 (slice_index_or (texts blocks) k []))
+    ap (words_of blake2b 16) (texts-at blocks k d (omega arith)) in
+    let words =
+    list_of_eight-at_lane (λ k. words_of blake2b 16 (slice_index_or (texts blocks) k []))
     _ _ _ _ _ _ _ _ (c.block_words.ensures ∙ read 0 _ (lit< tt))
     (c.block_words-2.ensures ∙ read 1 _ (lit< tt)) (c.block_words-3.ensures ∙ read 2 _ (lit< tt))
     (c.block_words-4.ensures ∙ read 3 _ (lit< tt)) (c.block_words-5.ensures ∙ read 4 _ (lit< tt))
     (c.block_words-6.ensures ∙ read 5 _ (lit< tt)) (c.block_words-7.ensures ∙ read 6 _ (lit< tt))
     (c.block_words-8.ensures ∙ read 7 _ (lit< tt)) j h in
-    ap (in_lane j) (sixteen_read c.interleave_from-a.result c.interleave_from-b.result
+    ap (in_lane j) (sixteen_reads-of_two_lists c.interleave_from-a.result c.interleave_from-b.result
     _ _ _ _ _ _ _ _ _ _ _ _ _ _ _ _ long_a long_b)
-    ∙ two_parts j _ _ _ long_a long_b (ap length words ∙ length-words_of blake2b 16 _)
+    ∙ in_lane-two_row_lists j _ _ _ long_a long_b (ap length words ∙ length-words_of blake2b 16 _)
     (λ i lt. c.interleave_from-a.ensures i j lt h) (λ i lt. c.interleave_from-b.ensures i j lt h)
     ∙ words

@@ -1,8 +1,8 @@
 -- Made by tools/twins.py from proofs/hashers/blake2bp/Blake2bpUpdate/update/Answers.antt.
 use Rattle.blake2_simd.specs.Family.{blake2s}
 use Rattle.blake2_parallel.specs.Blake2sp.{held_by}
-use Rattle.blake2_parallel.proofs.StateLaws.{Updated_by}
+use Rattle.blake2_parallel.proofs.StateLaws.{Updated-by_updated_part}
 use Rattle.blake2_parallel.proofs.hashers.blake2sp.Blake2spUpdate.update.Goals as goal
 
 pub returns : goal.returns
-returns g c = Updated_by blake2s held_by (λ t. t.state) _ _ _ c.update.ensures.updated
+returns g c = Updated-by_updated_part blake2s held_by (λ t. t.state) _ _ _ c.update.ensures.updated

@@ -12,8 +12,8 @@ returns-clause-pending c =
     ∙ ap (take c.args.held) c.as_flattened.ensures.value
 
 -- No bytes of any two lists are the same.
-no_bytes : (n : ℕ) (x y : List ℕ) → n ≡ 0 → take n x ≡ take n y
-no_bytes n x y none = ap (λ (m : ℕ). take m x) none ∙ sym (ap (λ (m : ℕ). take m y) none)
+take_0-is_same : (n : ℕ) (x y : List ℕ) → n ≡ 0 → take n x ≡ take n y
+take_0-is_same n x y none = ap (λ (m : ℕ). take m x) none ∙ sym (ap (λ (m : ℕ). take m y) none)
 
 pub returns-then-held-eq0-clause-pending : goal.returns-then-held-eq0-clause-pending
-returns-then-held-eq0-clause-pending c = no_bytes c.args.held _ _ c.if-held-eq0.true
+returns-then-held-eq0-clause-pending c = take_0-is_same c.args.held _ _ c.if-held-eq0.true

@@ -5,7 +5,8 @@ use Rattle.std.proofs.lemmas.List.{take_rest}
 use Rattle.blake2_simd.specs.Family.{blake2s}
 use Rattle.blake2_simd.specs.Lanes.{in_lane}
 use Rattle.blake2_parallel.specs.LeafStates.{Leaves, leaf_chain}
-use Rattle.blake2_parallel.proofs.LeafSteps.{WentOn-equal, WentOn-stripes, WentOn-then}
+use Rattle.blake2_parallel.proofs.LeafSteps.{HasAbsorbedPrefix-of_equal_leaves}
+use Rattle.blake2_parallel.proofs.LeafSteps.{HasAbsorbedPrefix-n_stripes, HasAbsorbedPrefix-trans}
 use Rattle.blake2_parallel.proofs.lanes.blake2sp.Lanes.compress_input.Goals as goal
 
 pub returns-clause-went_on : goal.returns-clause-went_on
@@ -22,11 +23,12 @@ returns-clause-went_on c =
       pending = [];
     } in
     let places : 512 * n ≡ n * 512 = omega arith in
-    WentOn-then blake2s _ old _ input input _ (WentOn-equal blake2s _ _ input (λ j. refl) refl
+    HasAbsorbedPrefix-trans blake2s _ old _ input input _
+    (HasAbsorbedPrefix-of_equal_leaves blake2s _ _ input (λ j. refl) refl
     (sym no_bytes))
-    (WentOn-then blake2s old new _ input _ _
-    (WentOn-stripes blake2s old new n input _ (omega arith)
+    (HasAbsorbedPrefix-trans blake2s old new _ input _ _
+    (HasAbsorbedPrefix-n_stripes blake2s old new n input _ (omega arith)
     (λ j lane. c.to_arrays-self.ensures j lane ∙ c.compress_stripes.ensures j lane
     ∙ ap (λ h. leaf_chain blake2s h t input j n) (c.to_vectors-rows.ensures j lane))
     (omega arith) (take_rest input (512 * n) ∙ ap (λ (k : ℕ). drop k input) places))
-    (WentOn-equal blake2s _ _ _ (λ j. refl) refl no_bytes))
+    (HasAbsorbedPrefix-of_equal_leaves blake2s _ _ _ (λ j. refl) refl no_bytes))

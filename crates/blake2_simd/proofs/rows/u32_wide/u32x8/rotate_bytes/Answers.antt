@@ -2,7 +2,7 @@ use Rattle.std.proofs.Common.{◌≡◌, ℕ, List, length, map, slice_index, sy
 use Rattle.std.proofs.Common.{Fits, w32}
 use Rattle.blake2_simd.specs.Family.{blake2s}
 use Rattle.blake2_simd.specs.Lanes.{eight_lanes}
-use Rattle.blake2_simd.proofs.ByteRotations.{lanes_rotated, word_after}
+use Rattle.blake2_simd.proofs.ByteRotations.{picked_bytes-rotate_lanes, rotated_word}
 use Rattle.blake2_simd.proofs.Words.{cells-drop}
 use Rattle.blake2_simd.proofs.rows.u32_wide.u32x8.rotate_bytes.Goals as goal
 
@@ -11,7 +11,7 @@ returns c =
     let lanes = c.self.inside.lanes in
     let long : length lanes ≡ 8 = search rules in
     let fits : (i : ℕ) → Fits w32 (get_or lanes i 0) = search rules in
-    lanes_rotated blake2s lanes long (λ i. (fits i).fits)
-    ∙ ap (map (word_after blake2s)) (sym (cells-drop lanes 0 8 long))
-    ∙ ap (λ (row : List ℕ). eight_lanes (λ j. word_after blake2s (slice_index row j)))
+    picked_bytes-rotate_lanes blake2s lanes long (λ i. (fits i).fits)
+    ∙ ap (map (rotated_word blake2s)) (sym (cells-drop lanes 0 8 long))
+    ∙ ap (λ (row : List ℕ). eight_lanes (λ j. rotated_word blake2s (slice_index row j)))
     c.self.view_is

@@ -1,7 +1,7 @@
 use Rattle.std.proofs.Common.{refl}
 use Rattle.blake2_simd.specs.Family.{blake2b}
-use Rattle.blake2_simd.proofs.Bytes.{lanes_read}
+use Rattle.blake2_simd.proofs.Bytes.{loaded_bytes-as_lanes}
 use Rattle.blake2_simd.proofs.rows.u64_lanes.u64x4.from_le_bytes.Goals as goal
 
 pub returns : goal.returns
-returns c = lanes_read blake2b 32 c.args.bytes.now refl c.requires c.type_inv.bytes
+returns c = loaded_bytes-as_lanes blake2b 32 c.args.bytes.now refl c.requires c.type_inv.bytes

@@ -1,11 +1,11 @@
 use Rattle.std.proofs.Common.{add-zero}
 use Rattle.blake2_simd.specs.Round.{mix}
-use Rattle.blake2_simd.proofs.Lanes.{same_in_lanes}
+use Rattle.blake2_simd.proofs.Lanes.{tabulate-injective}
 use Rattle.blake2_simd.proofs.rows.u64_lanes.u64x4.mix_lanes.Goals as goal
 
 pub returns : goal.returns
 unfolding mix
-returns c = same_in_lanes 4 _ _ (
+returns c = tabulate-injective 4 _ _ (
     rw (
       c.rotate_right_const-b2.ensures,
       c.bitxor-4.ensures,

@@ -2,14 +2,14 @@ use Rattle.std.proofs.Common.{◌≡◌, [], length, ap, ◌∙◌, rules}
 use Rattle.std.proofs.lemmas.List.{append-nil}
 use Rattle.blake2_simd.specs.Family.{blake2b}
 use Rattle.blake2_simd.specs.Rows.{work_words, columns, lane_rotations}
-use Rattle.blake2_simd.proofs.Columns.{four_read}
-use Rattle.blake2_simd.proofs.Lanes.{columns_by_lanes}
+use Rattle.blake2_simd.proofs.Columns.{four_reads-are_list}
+use Rattle.blake2_simd.proofs.Lanes.{columns-from_mixed_lanes}
 use Rattle.blake2_simd.proofs.rows.u64_lanes.u64x4.mix_rows.Goals as goal
 
 pub returns : goal.returns
 returns c =
     let long : length c.args.v ≡ 4 = search rules in
-    columns_by_lanes blake2b _ _ _ _ c.args.x c.args.y _ _ _
+    columns-from_mixed_lanes blake2b _ _ _ _ c.args.x c.args.y _ _ _
     (lane_rotations blake2b c.mix.result.3 16) c.mix.ensures
     ∙ ap (λ rows. columns blake2b (work_words rows) c.args.x c.args.y)
-    (four_read c.args.v [] _ _ _ _ long ∙ append-nil c.args.v)
+    (four_reads-are_list c.args.v [] _ _ _ _ long ∙ append-nil c.args.v)

@@ -1,6 +1,6 @@
 use Rattle.std.proofs.Common.{◌≡◌, length, rules}
 use Rattle.blake2_simd.specs.Round.{round}
-use Rattle.blake2_simd.proofs.Columns.{word_drawn}
+use Rattle.blake2_simd.proofs.Columns.{scheduled_word-in_lane}
 use Rattle.blake2_simd.proofs.rows.u64_lanes.u64x4.round_each.Goals as goal
 
 pub returns : goal.returns
@@ -8,7 +8,7 @@ unfolding round
 returns c j h =
     let long : length c.args.m.now ≡ 16 = search rules in
     let all : length c.args.s.now ≡ 16 = search rules in
-    let word = word_drawn c.args.m.now c.args.s.now j long all c.requires in
+    let word = scheduled_word-in_lane c.args.m.now c.args.s.now j long all c.requires in
     rw (
       c.mix_each-8.ensures j h,
       c.mix_each-7.ensures j h,

@@ -1,7 +1,7 @@
 use Rattle.std.proofs.Common.{◌≡◌, ℕ, length, ap, ◌∙◌, arith, rules, get_or, Fits, w64}
 use Rattle.blake2_simd.specs.Family.{blake2b}
 use Rattle.blake2_simd.specs.Rows.{lane_bytes}
-use Rattle.blake2_simd.proofs.Bytes.{lanes_written}
+use Rattle.blake2_simd.proofs.Bytes.{digits_l-are_lane_bytes}
 use Rattle.blake2_simd.proofs.rows.u64_lanes.u64x4.to_bytes.Goals as goal
 
 pub returns : goal.returns
@@ -9,5 +9,5 @@ returns c =
     let lanes = c.self.inside.lanes in
     let long : length lanes ≡ 4 = omega arith in
     let fits : (i : ℕ) → Fits w64 (get_or lanes i 0) = search rules in
-    lanes_written blake2b 32 lanes (omega arith) (λ i. (fits i).fits)
+    digits_l-are_lane_bytes blake2b 32 lanes (omega arith) (λ i. (fits i).fits)
     ∙ ap (lane_bytes blake2b) c.self.view_is

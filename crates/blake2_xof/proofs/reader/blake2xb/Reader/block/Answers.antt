@@ -1,13 +1,14 @@
 use Rattle.std.proofs.Common.{◌≡◌, length, sym, arith, rules}
 use Rattle.blake2_simd.specs.Family.{blake2b}
 use Rattle.blake2_xof.specs.Blake2xb.{settings_of}
-use Rattle.blake2_xof.proofs.OutputBlocks.{block_from}
+use Rattle.blake2_xof.proofs.OutputBlocks.{compressed_words-are_output_block}
 use Rattle.blake2_xof.proofs.reader.blake2xb.Reader.block.Goals as goal
 
 pub returns : goal.returns
 returns c =
     let self = c.args.self.now in
     let long : length self.root ≡ 64 = search rules in
-    block_from blake2b (settings_of self) self.root c.args.i 64 _ _ _ _ _ (omega arith)
+    compressed_words-are_output_block blake2b (settings_of self) self.root c.args.i 64 _ _ _ _ _
+    (omega arith)
     c.block_start_rows-h.ensures c.padded-block.ensures (sym long) c.last_block.ensures c.compress.ensures
     c.to_bytes.ensures

@@ -1,8 +1,8 @@
 use Rattle.std.proofs.Common.{◌≡◌, ◌+◌, ℕ, ap, ◌∙◌, length, arith, rules}
 use Rattle.blake2_simd.specs.Family.{blake2s}
-use Rattle.blake2_simd.proofs.Lanes.{listed_in_eight}
+use Rattle.blake2_simd.proofs.Lanes.{list_of_eight-at_lane}
 use Rattle.blake2_compress.specs.Hash.{start}
-use Rattle.blake2_compress.proofs.Lanes.{lane_is}
+use Rattle.blake2_compress.proofs.Lanes.{in_lane-equal_by_words}
 use Rattle.blake2_compress.proofs.ParameterSizes.{length-start}
 use Rattle.blake2_xof.specs.Blake2xs.{settings_of}
 use Rattle.blake2_xof.specs.Xof.{block_parameters}
@@ -13,7 +13,7 @@ returns c j lane =
     let i : ℕ = c.args.i in
     let first : i ≡ i + 0 = omega arith in
     let of = λ (k : ℕ). start blake2s (block_parameters blake2s (settings_of c.args.self.now) k) in
-    let words = listed_in_eight (λ k. of (i + k)) _ _ _ _ _ _ _ _
+    let words = list_of_eight-at_lane (λ k. of (i + k)) _ _ _ _ _ _ _ _
     (c.to_words.ensures ∙ c.block_start_rows.ensures ∙ ap of first)
     (c.to_words-2.ensures ∙ c.block_start_rows-2.ensures)
     (c.to_words-3.ensures ∙ c.block_start_rows-3.ensures)
@@ -22,5 +22,6 @@ returns c j lane =
     (c.to_words-6.ensures ∙ c.block_start_rows-6.ensures)
     (c.to_words-7.ensures ∙ c.block_start_rows-7.ensures)
     (c.to_words-8.ensures ∙ c.block_start_rows-8.ensures) j lane in
-    lane_is 8 j c.interleave.result _ (search rules) (ap length words ∙ length-start blake2s _)
+    in_lane-equal_by_words 8 j c.interleave.result _ (search rules)
+    (ap length words ∙ length-start blake2s _)
     (λ k lt. c.interleave.ensures j k lane lt) ∙ words

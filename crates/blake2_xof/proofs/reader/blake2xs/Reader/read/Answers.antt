@@ -5,7 +5,7 @@ use Rattle.std.proofs.lemmas.List.{append-nil, drop-drop, drop_all, take_rest}
 use Rattle.blake2_simd.specs.Family.{blake2s}
 use Rattle.blake2_xof.specs.Blake2xs.{output_of}
 use Rattle.blake2_xof.specs.Xof.{settings, xof_output}
-use Rattle.blake2_xof.proofs.ReadInPieces.{more_read}
+use Rattle.blake2_xof.proofs.ReadInPieces.{prefix-extended_by_read}
 use Rattle.blake2_xof.proofs.reader.blake2xs.Reader.read.Goals as goal
 
 pub loop-done-preserved : goal.loop-done-preserved
@@ -41,6 +41,6 @@ loop-done-preserved c =
         xof_length = after.read.xof_length ∙ read.xof_length;
         position = omega (arith, after.read.position, read.position);
       };
-      written = more_read s out _ d r before.written (search rules) long
+      written = prefix-extended_by_read s out _ d r before.written (search rules) long
           (ap (λ (l : List ℕ). take d out ++ l) whole);
     }

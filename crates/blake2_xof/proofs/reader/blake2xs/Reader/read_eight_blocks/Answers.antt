@@ -5,7 +5,7 @@ use Rattle.std.proofs.lemmas.List.{length-take-le}
 use Rattle.blake2_simd.specs.Family.{blake2s}
 use Rattle.blake2_compress.specs.Hash.{bytes_of, compress as F, final}
 use Rattle.blake2_xof.specs.Blake2xs.{settings_of}
-use Rattle.blake2_xof.proofs.OutputBlocks.{read_blocks}
+use Rattle.blake2_xof.proofs.OutputBlocks.{whole_blocks-are_take_of_output}
 use Rattle.blake2_xof.proofs.reader.blake2xs.Reader.read_eight_blocks.Goals as goal
 
 pub copy_from_slice-requires : goal.copy_from_slice-requires
@@ -19,7 +19,8 @@ returns-clause-output c =
     let eight : length c.last_of_eight-blocks.result ≡ 8 = search rules in
     ap (λ (l : List ℕ). l ++ drop 256 c.args.out.now) (c.copy_from_slice.ensures.after
     ∙ c.as_flattened.ensures.value
-    ∙ read_blocks blake2s (settings_of self) self.root c.last_of_eight-blocks.result self.position
+    ∙ whole_blocks-are_take_of_output blake2s (settings_of self) self.root
+    c.last_of_eight-blocks.result self.position
     (self.position / 32) 8 (omega arith) eight (omega arith) (omega arith) (λ j lane.
     c.last_of_eight-blocks.ensures j lane
     ∙ (λ i. bytes_of blake2s (F blake2s (c.eight_rows-rows.ensures j lane i) (c.padded.ensures i)

@@ -1,7 +1,0 @@
-use Rattle.std.proofs.Common.{◌≡◌, drop}
-use Rattle.std.specs.List.{list_any}
-use Rattle.b2sum_commands.specs.Quoting.{is_shell}
-use Rattle.b2sum_commands.proofs.quoting.has_shell.Given as goal
-
-abbrev pub invariant-loop-byte : goal.invariant-loop-byte
-invariant-loop-byte l = list_any is_shell (drop l.byte-index l.name) ≡ list_any is_shell l.name
