@@ -43,7 +43,7 @@ impl UpdateCore<64> for Counter {
 
 // The number of blocks that are passed on, and of bytes that stay, if `pending` bytes are
 // followed by this input.
-fn handed_and_held(pending: &[u8], input: &[u8]) -> (u64, usize)
+fn blocks_passed_and_bytes_kept(pending: &[u8], input: &[u8]) -> (u64, usize)
     requires pending { length pending.now ≤ 64 }
     requires input { length input.now ≤ 128 }
 {
@@ -55,17 +55,17 @@ fn handed_and_held(pending: &[u8], input: &[u8]) -> (u64, usize)
 }
 
 #[test]
-fn holds_the_last_block_back(rt: HostRuntime) {
+fn last_full_block_is_kept_for_later(rt: HostRuntime) {
     let bytes = [42; 128];
-    assert!(rt; handed_and_held(&bytes[..64], &bytes[..0]) == (0, 64));
-    assert!(rt; handed_and_held(&bytes[..64], &bytes[..1]) == (1, 1));
-    assert!(rt; handed_and_held(&bytes[..64], &bytes) == (2, 64));
-    assert!(rt; handed_and_held(&bytes[..0], &bytes[..64]) == (0, 64));
-    assert!(rt; handed_and_held(&bytes[..0], &bytes[..65]) == (1, 1));
+    assert!(rt; blocks_passed_and_bytes_kept(&bytes[..64], &bytes[..0]) == (0, 64));
+    assert!(rt; blocks_passed_and_bytes_kept(&bytes[..64], &bytes[..1]) == (1, 1));
+    assert!(rt; blocks_passed_and_bytes_kept(&bytes[..64], &bytes) == (2, 64));
+    assert!(rt; blocks_passed_and_bytes_kept(&bytes[..0], &bytes[..64]) == (0, 64));
+    assert!(rt; blocks_passed_and_bytes_kept(&bytes[..0], &bytes[..65]) == (1, 1));
 }
 
 #[test]
-fn keeps_its_bytes(rt: HostRuntime) {
+fn copies_reset_and_wipe_of_a_buffer(rt: HostRuntime) {
     let mut buffer = LazyBuffer::<4>::new(b"abc");
     let mut copy = buffer.clone().expect(&rt, "a clone");
     let mut twin = buffer.duplicate();

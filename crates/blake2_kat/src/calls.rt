@@ -4,7 +4,7 @@ use crate::checks::{check_digits, update_checked};
 use blake2::calls::{Call, replay};
 use blake2::digest::{Duplicate, FixedOutput, FixedOutputReset, Reset, Update};
 use blake2::{Blake2b256, Blake2b512, Blake2s256, Digest};
-use blake2_test_support::inputs::{CALLS, count_up, reads};
+use blake2_test_support::inputs::{CALLS, fill_with_counting_bytes, has_hex_digits};
 use std::process::Abort;
 
 // Checks that a list of calls returns these digests, in hexadecimal.
@@ -21,14 +21,14 @@ where
     assert!(rt; digests.len() == wanted.len(), "{wanted:?}");
     for (i, (digest, digits)) in digests.iter().zip(wanted.iter()).enumerate() {
         assert!(rt;
-            reads(digest.as_slice(), digits),
+            has_hex_digits(digest.as_slice(), digits),
             "digest {i} is not {digits}"
         );
     }
 }
 
 #[test]
-fn copy_and_finalize_hashers(rt: HostRuntime) {
+fn replay_returns_digests_of_copies(rt: HostRuntime) {
     let abc = "ba80a53f981c4d0d6a2797b69f12f6e94c212f14685ac4b74b12bb6fdbffa2d1\
                7d87c5392aab792dc252d5de4533cc9518d38aa8dbf1925ab92386edd4009923";
     let nothing = "786a02f742015903c6c6fd852552d272912f4740e15847618a86e217f71f5419\
@@ -41,12 +41,16 @@ fn copy_and_finalize_hashers(rt: HostRuntime) {
 
 // Checks the digest of the digests of the first 1 to 1,000 bytes, each by a copy in a separate
 // slot. The expected ones are those of `tests/expected_values.py`, under `replays`.
-fn check_beginnings<H, const N: usize>(rt: &(impl Abort + AllocGlobal), first: H, wanted: &str)
+fn check_digests_of_1000_prefixes<H, const N: usize>(
+    rt: &(impl Abort + AllocGlobal),
+    first: H,
+    wanted: &str,
+)
 where
     H: Update + FixedOutputReset<N> + FixedOutput<N> + Reset + Duplicate + Drop,
 {
     let mut message = [0; 1000];
-    count_up(&mut message);
+    fill_with_counting_bytes(&mut message);
     let mut calls = Vec::new(rt.alloc());
     for byte in message.chunks(1) {
         calls.push(Call::Update(0, byte)).expect(rt, "an update");
@@ -65,9 +69,9 @@ where
 }
 
 #[test]
-fn replay_many_calls(rt: HostRuntime) {
+fn replay_hashes_1000_prefixes(rt: HostRuntime) {
     let wanted = "f61444b1133ce519c8e309676d976e14a98ba4e21c946441e322928df26b1abe";
-    check_beginnings::<_, 64>(&rt, Blake2b512::new(), wanted);
+    check_digests_of_1000_prefixes::<_, 64>(&rt, Blake2b512::new(), wanted);
     let wanted = "1da4761ee42dd01f62e8cc09ddc9f446059b364fb051a82b3451349af905ab41";
-    check_beginnings::<_, 32>(&rt, Blake2s256::new(), wanted);
+    check_digests_of_1000_prefixes::<_, 32>(&rt, Blake2s256::new(), wanted);
 }

@@ -7,11 +7,11 @@ ghost use Rattle.std.specs.Prelude.{◌≤◌};
 use crate::checks::{check_digest_of, transcript};
 use crate::families::Word;
 use blake2::transcripts::{Entry, Transcript};
-use blake2_test_support::inputs::{count_up, input, unkeyed};
+use blake2_test_support::inputs::{fill_with_counting_bytes, input, unkeyed};
 use std::process::Abort;
 
 // Whether the transcript is read under these words, with another entry at this index.
-fn is_read_with<W: Word<B>, const B: usize>(
+fn is_read_with_changed_entry<W: Word<B>, const B: usize>(
     rt: &(impl Abort + AllocGlobal),
     told: &Transcript<W, B>,
     words: [W; 8],
@@ -28,7 +28,7 @@ fn is_read_with<W: Word<B>, const B: usize>(
 }
 
 // Whether the transcript is read with two entries exchanged.
-fn is_read_swapped<W: Word<B>, const B: usize>(
+fn is_read_with_entries_swapped<W: Word<B>, const B: usize>(
     rt: &(impl Abort + AllocGlobal),
     told: &Transcript<W, B>,
     i: usize,
@@ -47,7 +47,7 @@ fn is_read_swapped<W: Word<B>, const B: usize>(
 // How many transcripts are read of those with one bit of a word turned: of the sizes that the
 // first word begins with, and of the words of salt and persona. The words between are checked
 // separately. A word has B / 2 bits, since a block has sixteen words.
-fn read_words<W: Word<B>, const B: usize>(
+fn count_read_with_flipped_word_bit<W: Word<B>, const B: usize>(
     rt: &(impl Abort + AllocGlobal),
     told: &Transcript<W, B>,
 ) -> (u32, u32)
@@ -62,9 +62,9 @@ fn read_words<W: Word<B>, const B: usize>(
         for bit in 0..B / 2 {
             let mut words = told.words;
             if let Some(word) = words.get_mut(place) {
-                *word = word.turn(bit);
+                *word = word.with_bit_flipped(bit);
             }
-            let is_read = is_read_with(rt, told, words, 0, *first);
+            let is_read = is_read_with_changed_entry(rt, told, words, 0, *first);
             sizes = sizes.saturating_add(u32::from(is_read && place == 0 && bit < 16));
             texts = texts.saturating_add(u32::from(is_read && place >= 4));
         }
@@ -89,7 +89,7 @@ fn entry_with_flipped_bit<const B: usize>(entry: &Entry<B>, bit: usize) -> Entry
 
 // How many transcripts are read of those with one bit of an entry turned: of a counter, of one of
 // the two flags, and of a block.
-fn read_entries<W: Word<B>, const B: usize>(
+fn count_read_with_flipped_entry_bit<W: Word<B>, const B: usize>(
     rt: &(impl Abort + AllocGlobal),
     told: &Transcript<W, B>,
 ) -> (u32, u32, u32)
@@ -99,7 +99,7 @@ fn read_entries<W: Word<B>, const B: usize>(
     for (place, entry) in told.entries.iter().enumerate() {
         for bit in 0..66 + 8 * B {
             let other = entry_with_flipped_bit(entry, bit);
-            let is_read = is_read_with(rt, told, told.words, place, other);
+            let is_read = is_read_with_changed_entry(rt, told, told.words, place, other);
             counters = counters.saturating_add(u32::from(is_read && bit < 64));
             flags = flags.saturating_add(u32::from(is_read && 64 <= bit && bit < 66));
             blocks = blocks.saturating_add(u32::from(is_read && 66 <= bit));
@@ -109,7 +109,7 @@ fn read_entries<W: Word<B>, const B: usize>(
 }
 
 // Whether the transcript is read with these entries instead of its entries.
-fn is_read_of<W: Word<B>, const B: usize>(
+fn is_read_with_entries<W: Word<B>, const B: usize>(
     rt: &(impl Abort + AllocGlobal),
     told: &Transcript<W, B>,
     entries: &[Entry<B>],
@@ -121,7 +121,7 @@ fn is_read_of<W: Word<B>, const B: usize>(
 }
 
 // Whether the transcript is read with one more entry after its entries.
-fn is_read_longer<W: Word<B>, const B: usize>(
+fn is_read_with_entry_added<W: Word<B>, const B: usize>(
     rt: &(impl Abort + AllocGlobal),
     told: &Transcript<W, B>,
     more: Entry<B>,
@@ -135,7 +135,7 @@ fn is_read_longer<W: Word<B>, const B: usize>(
 
 // Checks that no other list of the same entries is read: none that lacks its first or its last
 // ones, none that has one of them twice, and none that has two of them exchanged.
-fn check_other_lists<W: Word<B>, const B: usize>(
+fn check_no_other_entry_list_is_read<W: Word<B>, const B: usize>(
     rt: &(impl Abort + AllocGlobal),
     told: &Transcript<W, B>,
 )
@@ -143,19 +143,19 @@ fn check_other_lists<W: Word<B>, const B: usize>(
 {
     let entries = told.entries.as_slice();
     for (i, first) in entries.iter().enumerate() {
-        let is_beginning_read = is_read_of(rt, told, &entries[..i]);
+        let is_beginning_read = is_read_with_entries(rt, told, &entries[..i]);
         assert!(rt; !is_beginning_read, "{i}");
-        let is_end_read = is_read_of(rt, told, &entries[i + 1..]);
+        let is_end_read = is_read_with_entries(rt, told, &entries[i + 1..]);
         assert!(rt; !is_end_read, "{i}");
-        assert!(rt; !is_read_longer(rt, told, *first), "{i}");
+        assert!(rt; !is_read_with_entry_added(rt, told, *first), "{i}");
         for j in 0..i {
-            assert!(rt; !is_read_swapped(rt, told, i, j), "{i} {j}");
+            assert!(rt; !is_read_with_entries_swapped(rt, told, i, j), "{i} {j}");
         }
     }
 }
 
 // Checks a transcript that is read and all its changes, and how many of these are read.
-fn check_changes<W: Word<B>, const B: usize>(
+fn check_read_and_its_changes<W: Word<B>, const B: usize>(
     rt: &(impl Abort + AllocGlobal),
     told: &Transcript<W, B>,
     words: (u32, u32),
@@ -164,38 +164,44 @@ fn check_changes<W: Word<B>, const B: usize>(
     requires { B ≤ 128 }
 {
     assert!(rt; W::is_read(rt, told));
-    assert!(rt; read_words(rt, told) == words, "{words:?}");
-    assert!(rt; read_entries(rt, told) == entries, "{entries:?}");
-    check_other_lists(rt, told);
+    assert!(rt;
+        count_read_with_flipped_word_bit(rt, told) == words,
+        "{words:?}"
+    );
+    assert!(rt;
+        count_read_with_flipped_entry_bit(rt, told) == entries,
+        "{entries:?}"
+    );
+    check_no_other_entry_list_is_read(rt, told);
 }
 
 #[test]
-fn read_changed_transcripts_of_blake2b(rt: HostRuntime) {
+fn changed_transcripts_of_blake2b_are_read(rt: HostRuntime) {
     let message = [0x2a; 200];
-    let told = u64::written(&rt, &unkeyed(&message[..128]), 64);
-    check_changes(&rt, &told, (1, 256), (0, 1, 1024));
-    let told = u64::written(&rt, &unkeyed(&message[..129]), 64);
-    check_changes(&rt, &told, (1, 256), (6, 1, 1032));
+    let told = u64::transcript_of_accepted(&rt, &unkeyed(&message[..128]), 64);
+    check_read_and_its_changes(&rt, &told, (1, 256), (0, 1, 1024));
+    let told = u64::transcript_of_accepted(&rt, &unkeyed(&message[..129]), 64);
+    check_read_and_its_changes(&rt, &told, (1, 256), (6, 1, 1032));
     let keyed = input(Some(&[1]), b"abc", b"0123456789abcdef", &message);
-    let told = u64::written(&rt, &keyed, 64);
-    check_changes(&rt, &told, (7, 256), (5, 1, 1608));
+    let told = u64::transcript_of_accepted(&rt, &keyed, 64);
+    check_read_and_its_changes(&rt, &told, (7, 256), (5, 1, 1608));
 }
 
 #[test]
-fn read_changed_transcripts_of_blake2s(rt: HostRuntime) {
+fn changed_transcripts_of_blake2s_are_read(rt: HostRuntime) {
     let message = [0x2a; 100];
-    let told = u32::written(&rt, &unkeyed(&message[..64]), 32);
-    check_changes(&rt, &told, (1, 128), (0, 1, 512));
-    let told = u32::written(&rt, &unkeyed(&message[..65]), 32);
-    check_changes(&rt, &told, (1, 128), (5, 1, 520));
+    let told = u32::transcript_of_accepted(&rt, &unkeyed(&message[..64]), 32);
+    check_read_and_its_changes(&rt, &told, (1, 128), (0, 1, 512));
+    let told = u32::transcript_of_accepted(&rt, &unkeyed(&message[..65]), 32);
+    check_read_and_its_changes(&rt, &told, (1, 128), (5, 1, 520));
     let keyed = input(Some(&[1]), b"abc", b"01234567", &message);
-    let told = u32::written(&rt, &keyed, 32);
-    check_changes(&rt, &told, (6, 128), (4, 1, 808));
+    let told = u32::transcript_of_accepted(&rt, &keyed, 32);
+    check_read_and_its_changes(&rt, &told, (6, 128), (4, 1, 808));
 }
 
 // Checks that a transcript is read, and the digest of all its entries: for each the counter, low
 // byte first, the flag and the block.
-fn check_long<W: Word<B>, const B: usize>(
+fn check_long_transcript<W: Word<B>, const B: usize>(
     rt: &(impl Abort + AllocGlobal),
     told: &Transcript<W, B>,
     wanted: &str,
@@ -216,25 +222,25 @@ fn check_long<W: Word<B>, const B: usize>(
 }
 
 #[test]
-fn read_long_transcripts_of_blake2b(rt: HostRuntime) {
+fn long_transcripts_of_blake2b_are_read(rt: HostRuntime) {
     let mut message = [0; 5000];
-    count_up(&mut message);
-    let told = u64::written(&rt, &input(None, b"abc", b"", &message), 64);
+    fill_with_counting_bytes(&mut message);
+    let told = u64::transcript_of_accepted(&rt, &input(None, b"abc", b"", &message), 64);
     let wanted = "627c8498d916e3c73578b3d3a0867789b206876e18b85c6df87fd17b6ef61cf2";
-    check_long(&rt, &told, wanted);
-    let told = u64::written(&rt, &input(Some(b"key"), b"abc", b"", &message), 64);
+    check_long_transcript(&rt, &told, wanted);
+    let told = u64::transcript_of_accepted(&rt, &input(Some(b"key"), b"abc", b"", &message), 64);
     let wanted = "39dfbca685e20c68df095466a71ddbe744b8709eceb51e17c600634eeeade99c";
-    check_long(&rt, &told, wanted);
+    check_long_transcript(&rt, &told, wanted);
 }
 
 #[test]
-fn read_long_transcripts_of_blake2s(rt: HostRuntime) {
+fn long_transcripts_of_blake2s_are_read(rt: HostRuntime) {
     let mut message = [0; 5000];
-    count_up(&mut message);
-    let told = u32::written(&rt, &input(None, b"abc", b"", &message), 32);
+    fill_with_counting_bytes(&mut message);
+    let told = u32::transcript_of_accepted(&rt, &input(None, b"abc", b"", &message), 32);
     let wanted = "c41cdc40bb9aa198750f6166224cf6da97940a05281ff7770bc948b695cdf0ed";
-    check_long(&rt, &told, wanted);
-    let told = u32::written(&rt, &input(Some(b"key"), b"abc", b"", &message), 32);
+    check_long_transcript(&rt, &told, wanted);
+    let told = u32::transcript_of_accepted(&rt, &input(Some(b"key"), b"abc", b"", &message), 32);
     let wanted = "b3c7f5521bfe970ac92d42852d1a70abbce5df9be93269d4ed4797656fa93b21";
-    check_long(&rt, &told, wanted);
+    check_long_transcript(&rt, &told, wanted);
 }

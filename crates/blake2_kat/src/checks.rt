@@ -6,13 +6,13 @@ use blake2::digest::Update;
 use blake2::transcripts::{Entry, Input, Reading, Transcript};
 use blake2::{Blake2b256, Digest};
 use blake2_test_support::inputs;
-use blake2_test_support::inputs::reads;
+use blake2_test_support::inputs::has_hex_digits;
 use std::fmt;
 use std::process::Abort;
 
-/// Checks that these digits are the bytes, as `reads` returns.
+/// Checks that these digits are the bytes, as `has_hex_digits` returns.
 pub(crate) fn check_digits(rt: &impl Abort, bytes: &[u8], digits: &str) {
-    assert!(rt; reads(bytes, digits), "not {digits}");
+    assert!(rt; has_hex_digits(bytes, digits), "not {digits}");
 }
 
 /// Checks that `Debug` writes this of the value.

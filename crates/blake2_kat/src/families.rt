@@ -3,7 +3,7 @@
 use crate::checks::reading;
 use blake2::transcripts::{Input, Step, Transcript};
 use blake2::{Blake2b512, Blake2bVarCore, Blake2s256, Blake2sVarCore, Digest, LastNode};
-use blake2_test_support::inputs::read_input;
+use blake2_test_support::inputs::input_of_reading;
 use std::alloc::AllocError;
 use std::fmt::Debug;
 use std::process::Abort;
@@ -11,7 +11,7 @@ use std::process::Abort;
 /// The words of a family, whose blocks have B bytes, and the calls of its core that tests compare.
 pub(crate) trait Word<const B: usize>: Copy + Drop + Eq + Debug {
     /// The word with a bit turned.
-    fn turn(self, bit: usize) -> Self;
+    fn with_bit_flipped(self, bit: usize) -> Self;
 
     /// The bytes of the word, low byte first, and then zeros.
     fn to_bytes(self) -> [u8; 8];
@@ -20,7 +20,7 @@ pub(crate) trait Word<const B: usize>: Copy + Drop + Eq + Debug {
     fn digest(rt: &(impl Abort + AllocGlobal), node: &Input<'_>) -> Vec<u8>;
 
     /// The transcript of an input, which is checked to be accepted, at a size that the family has.
-    fn written(
+    fn transcript_of_accepted(
         rt: &(impl Abort + AllocGlobal),
         input: &Input<'_>,
         output_size: usize,
@@ -47,7 +47,7 @@ pub(crate) trait Word<const B: usize>: Copy + Drop + Eq + Debug {
 }
 
 impl Word<128> for u64 {
-    fn turn(self, bit: usize) -> u64 {
+    fn with_bit_flipped(self, bit: usize) -> u64 {
         self ^ 1u64.wrapping_shl((bit % 64) as u32)
     }
 
@@ -66,7 +66,7 @@ impl Word<128> for u64 {
             .expect(rt, "room for a digest")
     }
 
-    fn written(
+    fn transcript_of_accepted(
         rt: &(impl Abort + AllocGlobal),
         input: &Input<'_>,
         output_size: usize,
@@ -81,7 +81,7 @@ impl Word<128> for u64 {
         let Some(read) = read.expect(rt, "room for a reading") else {
             return false;
         };
-        let written = Self::written(rt, &read_input(&read), read.output_size);
+        let written = Self::transcript_of_accepted(rt, &input_of_reading(&read), read.output_size);
         assert!(rt; written == *told, "{told:?}");
         true
     }
@@ -111,7 +111,7 @@ impl Word<128> for u64 {
 }
 
 impl Word<64> for u32 {
-    fn turn(self, bit: usize) -> u32 {
+    fn with_bit_flipped(self, bit: usize) -> u32 {
         self ^ 1u32.wrapping_shl((bit % 32) as u32)
     }
 
@@ -130,7 +130,7 @@ impl Word<64> for u32 {
             .expect(rt, "room for a digest")
     }
 
-    fn written(
+    fn transcript_of_accepted(
         rt: &(impl Abort + AllocGlobal),
         input: &Input<'_>,
         output_size: usize,
@@ -145,7 +145,7 @@ impl Word<64> for u32 {
         let Some(read) = read.expect(rt, "room for a reading") else {
             return false;
         };
-        let written = Self::written(rt, &read_input(&read), read.output_size);
+        let written = Self::transcript_of_accepted(rt, &input_of_reading(&read), read.output_size);
         assert!(rt; written == *told, "{told:?}");
         true
     }

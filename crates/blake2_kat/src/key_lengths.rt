@@ -4,12 +4,12 @@
 use crate::checks::update_checked;
 use blake2::digest::{FixedOutput, InvalidLength, KeyInit};
 use blake2::{Blake2b256, Blake2bMac512, Blake2bVarCore, Blake2sMac256, Blake2sVarCore, Digest};
-use blake2_test_support::inputs::{count_up, input, reads};
+use blake2_test_support::inputs::{fill_with_counting_bytes, has_hex_digits, input};
 use std::process::Abort;
 
 // Checks one choice of parts: all functions agree on whether they are accepted, and their output
 // is absorbed.
-fn check_parts<M: FixedOutput<N> + Drop, const N: usize>(
+fn check_if_parts_are_accepted<M: FixedOutput<N> + Drop, const N: usize>(
     rt: &impl Abort,
     outputs: &mut Blake2b256,
     lengths: (Option<usize>, usize, usize),
@@ -27,9 +27,9 @@ fn check_parts<M: FixedOutput<N> + Drop, const N: usize>(
 }
 
 #[test]
-fn take_lengths_of_blake2b(rt: HostRuntime) {
+fn blake2b_accepts_exactly_right_lengths(rt: HostRuntime) {
     let mut bytes = [0; 129];
-    count_up(&mut bytes);
+    fill_with_counting_bytes(&mut bytes);
     let mut outputs = Blake2b256::new();
     for (key_size, key_fits) in [
         (None, true),
@@ -55,7 +55,7 @@ fn take_lengths_of_blake2b(rt: HostRuntime) {
                 assert!(rt; salt <= 32 && persona <= 32);
                 let lengths = (key_size, salt, persona);
                 let (salt, persona) = (&bytes[..salt], &bytes[..persona]);
-                check_parts(
+                check_if_parts_are_accepted(
                     &rt,
                     &mut outputs,
                     lengths,
@@ -67,13 +67,13 @@ fn take_lengths_of_blake2b(rt: HostRuntime) {
         }
     }
     let wanted = "2bc28563443138e0cf3754d214c674c2e6da1f7ee80dc3c053aa22feb84ecde3";
-    assert!(rt; reads(&outputs.finalize(), wanted));
+    assert!(rt; has_hex_digits(&outputs.finalize(), wanted));
 }
 
 #[test]
-fn take_lengths_of_blake2s(rt: HostRuntime) {
+fn blake2s_accepts_exactly_right_lengths(rt: HostRuntime) {
     let mut bytes = [0; 65];
-    count_up(&mut bytes);
+    fill_with_counting_bytes(&mut bytes);
     let mut outputs = Blake2b256::new();
     for (key_size, key_fits) in [
         (None, true),
@@ -99,7 +99,7 @@ fn take_lengths_of_blake2s(rt: HostRuntime) {
                 assert!(rt; salt <= 32 && persona <= 32);
                 let lengths = (key_size, salt, persona);
                 let (salt, persona) = (&bytes[..salt], &bytes[..persona]);
-                check_parts(
+                check_if_parts_are_accepted(
                     &rt,
                     &mut outputs,
                     lengths,
@@ -111,5 +111,5 @@ fn take_lengths_of_blake2s(rt: HostRuntime) {
         }
     }
     let wanted = "de3f0b8caf4b35f5af466748344faa732d63f9b0a31091ec02d897bb5a4ad161";
-    assert!(rt; reads(&outputs.finalize(), wanted));
+    assert!(rt; has_hex_digits(&outputs.finalize(), wanted));
 }

@@ -8,9 +8,12 @@ use blake2::calls::{Call, ReplayFault, replay};
 use blake2::transcripts::{Input, Reading, Transcript};
 use blake2::{Blake2b512, Blake2bVarCore, Blake2sVarCore, Digest};
 use blake2_test_support::inputs::{
-    CALLS, WORDS, blake2b_last, blake2s_last, entry, input, unkeyed,
+    CALLS, WORDS, blake2b_last_step, blake2s_last_step, entry, input, unkeyed,
 };
-use blake2_test_support::no_memory::{SPARE_BYTES, TRIES, hoard, is_refused, plug};
+use blake2_test_support::no_memory::{
+    SPARE_BYTES, TRIES, allocate_all_memory_but, allocate_spare_bytes_but,
+    are_small_allocations_refused,
+};
 use std::alloc::{AllocError, Global};
 use std::process::Abort;
 
@@ -23,7 +26,7 @@ enum Found {
 }
 
 // Checks that memory was refused at the first tries, and that all later ones found the result.
-fn check_found(rt: &impl Abort, found: &[Found]) {
+fn check_refusals_come_before_results(rt: &impl Abort, found: &[Found]) {
     let mut refused = 0usize;
     for (tries, found) in found.iter().enumerate() {
         if *found == Found::Refusal {
@@ -52,10 +55,10 @@ const NOTHING: [u8; 64] = [
 ];
 
 // What a list of calls finds if a number of bytes are left.
-fn replay_with(alloc: Global, left: usize) -> Found
+fn replay_with_bytes_left(alloc: Global, left: usize) -> Found
     requires { left ≤ 65536 }
 {
-    let plug = plug(alloc, left);
+    let plug = allocate_spare_bytes_but(alloc, left);
     let found = replay::<_, 64>(alloc, Blake2b512::new(), &CALLS);
     if plug.is_err() {
         return Found::Other;
@@ -68,59 +71,64 @@ fn replay_with(alloc: Global, left: usize) -> Found
 }
 
 #[test]
-fn refuse_memory_to_replay(rt: HostRuntime) {
+fn replay_returns_error_without_memory(rt: HostRuntime) {
     let mut found = [Found::Other; TRIES];
-    let hoard = hoard(rt.alloc(), SPARE_BYTES).expect(&rt, "room for the hoard");
+    let hoard = allocate_all_memory_but(rt.alloc(), SPARE_BYTES).expect(&rt, "room for the hoard");
     for tries in 0..TRIES {
-        found[tries] = replay_with(rt.alloc(), 16 * tries);
+        found[tries] = replay_with_bytes_left(rt.alloc(), 16 * tries);
     }
     drop(hoard);
-    check_found(&rt, &found);
+    check_refusals_come_before_results(&rt, &found);
 }
 
 // Whether a list of calls is refused for `owed` if there is memory for slot 0, and otherwise for
 // that or because an allocation fails.
-fn is_owed(alloc: Global, is_enough: bool, calls: &[Call<'_>], owed: Option<ReplayFault>) -> bool {
+fn replay_returns_owed_fault(
+    alloc: Global,
+    is_enough: bool,
+    calls: &[Call<'_>],
+    owed: Option<ReplayFault>,
+) -> bool {
     let found = replay::<_, 64>(alloc, Blake2b512::new(), calls).err();
     found == owed || !is_enough && found == Some(ReplayFault::Memory)
 }
 
 // Whether lists whose first call is bad are refused for that call, long ones too: nothing is
 // allocated for the calls after it.
-fn bad_first_call_needs_no_memory(alloc: Global, is_enough: bool) -> bool {
+fn bad_first_call_needs_no_allocation(alloc: Global, is_enough: bool) -> bool {
     let owed = Some(ReplayFault::NoSuchSlot(0));
     let mut copies = [Call::Clone(0); 300];
     copies[0] = Call::Reset(1);
     let mut digests = [Call::FinalizeReset(0); 300];
     digests[0] = Call::Finalize(1);
-    is_owed(alloc, is_enough, &[Call::Clone(1)], owed)
-        & is_owed(alloc, is_enough, &[Call::FinalizeReset(7)], owed)
-        & is_owed(alloc, is_enough, &[Call::Update(1, b"abc")], owed)
-        & is_owed(alloc, is_enough, &[Call::Reset(usize::MAX)], owed)
-        & is_owed(alloc, is_enough, &copies, owed)
-        & is_owed(alloc, is_enough, &digests, owed)
+    replay_returns_owed_fault(alloc, is_enough, &[Call::Clone(1)], owed)
+        & replay_returns_owed_fault(alloc, is_enough, &[Call::FinalizeReset(7)], owed)
+        & replay_returns_owed_fault(alloc, is_enough, &[Call::Update(1, b"abc")], owed)
+        & replay_returns_owed_fault(alloc, is_enough, &[Call::Reset(usize::MAX)], owed)
+        & replay_returns_owed_fault(alloc, is_enough, &copies, owed)
+        & replay_returns_owed_fault(alloc, is_enough, &digests, owed)
 }
 
 // Whether updates and resets need no memory, before a bad call and without one.
-fn bad_later_calls_are_owed(alloc: Global, is_enough: bool) -> bool {
+fn bad_later_calls_are_reported(alloc: Global, is_enough: bool) -> bool {
     let owed = Some(ReplayFault::NoSuchSlot(2));
     let mut calls = [Call::Update(0, b"abc"); 5];
     calls[1] = Call::Reset(0);
-    let is_good_owed = is_owed(alloc, is_enough, &calls, None);
+    let is_good_owed = replay_returns_owed_fault(alloc, is_enough, &calls, None);
     calls[2] = Call::Clone(1);
     calls[3] = Call::Clone(0);
-    is_good_owed & is_owed(alloc, is_enough, &calls, owed)
+    is_good_owed & replay_returns_owed_fault(alloc, is_enough, &calls, owed)
 }
 
 // What lists with a bad call find if a number of bytes are left: the result if there is memory
 // for slot 0, and all are refused for their bad call.
-fn replay_bad_with(alloc: Global, left: usize) -> Found
+fn replay_bad_calls_with_bytes_left(alloc: Global, left: usize) -> Found
     requires { left ≤ 65536 }
 {
-    let plug = plug(alloc, left);
+    let plug = allocate_spare_bytes_but(alloc, left);
     let is_enough = replay::<_, 64>(alloc, Blake2b512::new(), &[]).is_ok();
-    let are_owed = bad_first_call_needs_no_memory(alloc, is_enough)
-        & bad_later_calls_are_owed(alloc, is_enough);
+    let are_owed = bad_first_call_needs_no_allocation(alloc, is_enough)
+        & bad_later_calls_are_reported(alloc, is_enough);
     if plug.is_err() || !are_owed {
         return Found::Other;
     }
@@ -132,18 +140,18 @@ fn replay_bad_with(alloc: Global, left: usize) -> Found
 }
 
 #[test]
-fn refuse_no_memory_before_a_bad_call(rt: HostRuntime) {
+fn bad_calls_are_reported_without_memory(rt: HostRuntime) {
     let mut found = [Found::Other; TRIES];
-    let hoard = hoard(rt.alloc(), SPARE_BYTES).expect(&rt, "room for the hoard");
+    let hoard = allocate_all_memory_but(rt.alloc(), SPARE_BYTES).expect(&rt, "room for the hoard");
     for tries in 0..TRIES {
-        found[tries] = replay_bad_with(rt.alloc(), 16 * tries);
+        found[tries] = replay_bad_calls_with_bytes_left(rt.alloc(), 16 * tries);
     }
     drop(hoard);
-    check_found(&rt, &found);
+    check_refusals_come_before_results(&rt, &found);
 }
 
 // What a transcript finds if a number of bytes are left.
-fn transcript_with(
+fn transcript_with_bytes_left(
     alloc: Global,
     left: usize,
     input: &Input<'_>,
@@ -151,7 +159,7 @@ fn transcript_with(
 ) -> Found
     requires { left ≤ 65536 }
 {
-    let plug = plug(alloc, left);
+    let plug = allocate_spare_bytes_but(alloc, left);
     if plug.is_err() || !Blake2bVarCore::accepts(input) {
         return Found::Other;
     }
@@ -163,7 +171,7 @@ fn transcript_with(
 }
 
 // What its reader finds if a number of bytes are left.
-fn reading_with(
+fn reading_with_bytes_left(
     alloc: Global,
     left: usize,
     told: &Transcript<u64, 128>,
@@ -171,7 +179,7 @@ fn reading_with(
 ) -> Found
     requires { left ≤ 65536 }
 {
-    let plug = plug(alloc, left);
+    let plug = allocate_spare_bytes_but(alloc, left);
     if plug.is_err() {
         return Found::Other;
     }
@@ -183,7 +191,7 @@ fn reading_with(
 }
 
 #[test]
-fn refuse_memory_to_transcripts_and_their_reader(rt: HostRuntime) {
+fn transcripts_return_error_without_memory(rt: HostRuntime) {
     let alloc = rt.alloc();
     let message = [0x2a; 200];
     let input = input(Some(&[1]), b"abc", b"0123456789abcdef", &message);
@@ -195,18 +203,18 @@ fn refuse_memory_to_transcripts_and_their_reader(rt: HostRuntime) {
     let wanted = transcript(&rt, WORDS, &entries);
     let wanted_reading = reading(&rt, &input, 64);
     let (mut written, mut read) = ([Found::Other; TRIES], [Found::Other; TRIES]);
-    let hoard = hoard(alloc, SPARE_BYTES).expect(&rt, "room for the hoard");
+    let hoard = allocate_all_memory_but(alloc, SPARE_BYTES).expect(&rt, "room for the hoard");
     for tries in 0..TRIES {
-        written[tries] = transcript_with(alloc, 16 * tries, &input, &wanted);
-        read[tries] = reading_with(alloc, 16 * tries, &wanted, &wanted_reading);
+        written[tries] = transcript_with_bytes_left(alloc, 16 * tries, &input, &wanted);
+        read[tries] = reading_with_bytes_left(alloc, 16 * tries, &wanted, &wanted_reading);
     }
     drop(hoard);
-    check_found(&rt, &written);
-    check_found(&rt, &read);
+    check_refusals_come_before_results(&rt, &written);
+    check_refusals_come_before_results(&rt, &read);
 }
 
 // Transcripts of BLAKE2b that belong to no input.
-fn forged(rt: &(impl Abort + AllocGlobal)) -> Vec<Transcript<u64, 128>> {
+fn transcripts_of_no_input(rt: &(impl Abort + AllocGlobal)) -> Vec<Transcript<u64, 128>> {
     let words = [0x01010040, 0, 0, 0, 0, 0, 0, 0];
     let block = [0x2a; 128];
     let mut told = Vec::new(rt.alloc());
@@ -236,17 +244,17 @@ fn forged(rt: &(impl Abort + AllocGlobal)) -> Vec<Transcript<u64, 128>> {
 }
 
 #[test]
-fn read_no_input_without_memory(rt: HostRuntime) {
+fn no_input_is_read_without_memory(rt: HostRuntime) {
     let alloc = rt.alloc();
-    let told = forged(&rt);
+    let told = transcripts_of_no_input(&rt);
     let mut are_read = true;
-    let hoard = hoard(alloc, SPARE_BYTES).expect(&rt, "room for the hoard");
-    let plug = plug(alloc, 0).expect(&rt, "a plug");
-    let refused_before = is_refused(alloc);
+    let hoard = allocate_all_memory_but(alloc, SPARE_BYTES).expect(&rt, "room for the hoard");
+    let plug = allocate_spare_bytes_but(alloc, 0).expect(&rt, "a plug");
+    let refused_before = are_small_allocations_refused(alloc);
     for transcript in &told {
         are_read &= matches!(Blake2bVarCore::read_transcript(alloc, transcript), Ok(None));
     }
-    let refused_after = is_refused(alloc);
+    let refused_after = are_small_allocations_refused(alloc);
     drop(plug);
     drop(hoard);
     assert!(rt; refused_before && refused_after);
@@ -255,40 +263,46 @@ fn read_no_input_without_memory(rt: HostRuntime) {
 
 // Whether BLAKE2b has the witness of `a` and `b` at the size 0, and none at the size 64, nor one of
 // `a` and itself.
-fn blake2b_witnesses(alloc: Global) -> bool {
+fn blake2b_finds_the_witness(alloc: Global) -> bool {
     let (a, b) = (unkeyed(b"a"), unkeyed(b"b"));
     if !Blake2bVarCore::accepts(&a) || !Blake2bVarCore::accepts(&b) {
         return false;
     }
     let word = 0x6a09e667f2bdc908;
-    let wanted = (blake2b_last(word, b"a", 1), blake2b_last(word, b"b", 1));
+    let wanted = (
+        blake2b_last_step(word, b"a", 1),
+        blake2b_last_step(word, b"b", 1),
+    );
     Blake2bVarCore::witness(alloc, &a, &b, 0) == Ok(Some(wanted))
         && Blake2bVarCore::witness(alloc, &a, &b, 64) == Ok(None)
         && Blake2bVarCore::witness(alloc, &a, &a, 0) == Ok(None)
 }
 
 // The same for BLAKE2s, whose maximum size is 32, and for `b` and itself.
-fn blake2s_witnesses(alloc: Global) -> bool {
+fn blake2s_finds_the_witness(alloc: Global) -> bool {
     let (a, b) = (unkeyed(b"a"), unkeyed(b"b"));
     if !Blake2sVarCore::accepts(&a) || !Blake2sVarCore::accepts(&b) {
         return false;
     }
     let word = 0x6b08e667;
-    let wanted = (blake2s_last(word, b"a", 1), blake2s_last(word, b"b", 1));
+    let wanted = (
+        blake2s_last_step(word, b"a", 1),
+        blake2s_last_step(word, b"b", 1),
+    );
     Blake2sVarCore::witness(alloc, &a, &b, 0) == Ok(Some(wanted))
         && Blake2sVarCore::witness(alloc, &a, &b, 32) == Ok(None)
         && Blake2sVarCore::witness(alloc, &b, &b, 0) == Ok(None)
 }
 
 #[test]
-fn witness_without_memory(rt: HostRuntime) {
+fn witness_needs_no_memory(rt: HostRuntime) {
     let alloc = rt.alloc();
-    let hoard = hoard(alloc, SPARE_BYTES).expect(&rt, "room for the hoard");
-    let plug = plug(alloc, 0).expect(&rt, "a plug");
-    let refused_before = is_refused(alloc);
-    let by_blake2b = blake2b_witnesses(alloc);
-    let by_blake2s = blake2s_witnesses(alloc);
-    let refused_after = is_refused(alloc);
+    let hoard = allocate_all_memory_but(alloc, SPARE_BYTES).expect(&rt, "room for the hoard");
+    let plug = allocate_spare_bytes_but(alloc, 0).expect(&rt, "a plug");
+    let refused_before = are_small_allocations_refused(alloc);
+    let by_blake2b = blake2b_finds_the_witness(alloc);
+    let by_blake2s = blake2s_finds_the_witness(alloc);
+    let refused_after = are_small_allocations_refused(alloc);
     drop(plug);
     drop(hoard);
     assert!(rt; refused_before && refused_after);

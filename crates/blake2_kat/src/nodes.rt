@@ -8,12 +8,14 @@ use crate::checks::{check_digest_of, transcript};
 use crate::families::Word;
 use blake2::Blake2bVarCore;
 use blake2::transcripts::{Entry, Input, Step, Transcript, Tree};
-use blake2_test_support::inputs::{blake2b_last, count_up, entry, input, unkeyed};
+use blake2_test_support::inputs::{
+    blake2b_last_step, entry, fill_with_counting_bytes, input, unkeyed,
+};
 use std::process::Abort;
 
 // The tree parameters of the node with this number among 64, if node offsets have 64 bits less
 // `shift`, and outputs at most `longest` bytes.
-fn place(number: u8, shift: u32, longest: u32) -> Tree {
+fn tree_node_parameters(number: u8, shift: u32, longest: u32) -> Tree {
     Tree {
         fanout: number.wrapping_mul(37),
         depth: (1 + number as u32 * 11 % 255) as u8,
@@ -25,24 +27,24 @@ fn place(number: u8, shift: u32, longest: u32) -> Tree {
 }
 
 // Adds some bytes.
-fn add(rt: &impl Abort, bytes: &mut Vec<u8>, more: &[u8]) {
+fn append_bytes(rt: &impl Abort, bytes: &mut Vec<u8>, more: &[u8]) {
     bytes.extend_from_slice(more).expect(rt, "room for them");
 }
 
 // Adds the counter, the two flags and the block of each entry.
-fn add_entries<const B: usize>(rt: &impl Abort, bytes: &mut Vec<u8>, entries: &[Entry<B>]) {
+fn append_entries<const B: usize>(rt: &impl Abort, bytes: &mut Vec<u8>, entries: &[Entry<B>]) {
     for entry in entries {
         let counter = entry.counter.to_le_bytes();
         let flags = [u8::from(entry.last), u8::from(entry.last_node)];
         for piece in [counter.as_slice(), &flags, &entry.block] {
-            add(rt, bytes, piece);
+            append_bytes(rt, bytes, piece);
         }
     }
 }
 
 // Adds the digest of a node, and the words and the entries of its transcript, and checks that this
 // is read as the node.
-fn add_node<W: Word<B>, const B: usize>(
+fn append_node_and_its_transcript<W: Word<B>, const B: usize>(
     rt: &(impl Abort + AllocGlobal),
     node: &Input<'_>,
     told: &Transcript<W, B>,
@@ -52,18 +54,18 @@ fn add_node<W: Word<B>, const B: usize>(
 )
     requires { B ≤ 128 }
 {
-    add(rt, outputs, W::digest(rt, node).as_slice());
+    append_bytes(rt, outputs, W::digest(rt, node).as_slice());
     for word in told.words {
-        add(rt, transcripts, &word.to_bytes()[..B / 16]);
+        append_bytes(rt, transcripts, &word.to_bytes()[..B / 16]);
     }
-    add_entries(rt, transcripts, told.entries.as_slice());
+    append_entries(rt, transcripts, told.entries.as_slice());
     let is_read = W::is_read_as(rt, told, node, output_size);
     assert!(rt; is_read, "{} bytes", node.message.len());
 }
 
 // The node with this number and these tree parameters, whose salt and persona have fewer than
 // `texts` bytes.
-fn node_of<'a>(bytes: &'a [u8; 320], number: u8, tree: Tree, texts: usize) -> Input<'a>
+fn node_input<'a>(bytes: &'a [u8; 320], number: u8, tree: Tree, texts: usize) -> Input<'a>
     requires number { number ≤ 63 }
     requires least { 1 ≤ texts }
     requires most { texts ≤ 17 }
@@ -78,14 +80,14 @@ fn node_of<'a>(bytes: &'a [u8; 320], number: u8, tree: Tree, texts: usize) -> In
 }
 
 #[test]
-fn hash_nodes_of_blake2b(rt: HostRuntime) {
+fn blake2b_nodes_and_their_transcripts(rt: HostRuntime) {
     let mut bytes = [0; 320];
-    count_up(&mut bytes);
+    fill_with_counting_bytes(&mut bytes);
     let (mut outputs, mut transcripts) = (Vec::new(rt.alloc()), Vec::new(rt.alloc()));
     for number in 0..64u8 {
-        let node = node_of(&bytes, number, place(number, 0, 64), 17);
-        let told = u64::written(&rt, &node, 64);
-        add_node(&rt, &node, &told, 64, &mut outputs, &mut transcripts);
+        let node = node_input(&bytes, number, tree_node_parameters(number, 0, 64), 17);
+        let told = u64::transcript_of_accepted(&rt, &node, 64);
+        append_node_and_its_transcript(&rt, &node, &told, 64, &mut outputs, &mut transcripts);
     }
     let wanted = "743494e239b845379ce3db0c03d9c6c6828864db7264aedb66b4fa41ec51901d";
     check_digest_of(&rt, outputs.as_slice(), wanted);
@@ -94,14 +96,14 @@ fn hash_nodes_of_blake2b(rt: HostRuntime) {
 }
 
 #[test]
-fn hash_nodes_of_blake2s(rt: HostRuntime) {
+fn blake2s_nodes_and_their_transcripts(rt: HostRuntime) {
     let mut bytes = [0; 320];
-    count_up(&mut bytes);
+    fill_with_counting_bytes(&mut bytes);
     let (mut outputs, mut transcripts) = (Vec::new(rt.alloc()), Vec::new(rt.alloc()));
     for number in 0..64u8 {
-        let node = node_of(&bytes, number, place(number, 16, 32), 9);
-        let told = u32::written(&rt, &node, 32);
-        add_node(&rt, &node, &told, 32, &mut outputs, &mut transcripts);
+        let node = node_input(&bytes, number, tree_node_parameters(number, 16, 32), 9);
+        let told = u32::transcript_of_accepted(&rt, &node, 32);
+        append_node_and_its_transcript(&rt, &node, &told, 32, &mut outputs, &mut transcripts);
     }
     let wanted = "d2d1ec99c81c273452aa7241f907a5dabf6cc3a797c4fef5894148c7d8a4194a";
     check_digest_of(&rt, outputs.as_slice(), wanted);
@@ -111,7 +113,13 @@ fn hash_nodes_of_blake2s(rt: HostRuntime) {
 
 // Tree parameters of depth 1 with this fanout, leaf length, node offset, node depth and inner
 // length.
-fn at(fanout: u8, leaf_length: u32, node_offset: u64, node_depth: u8, inner_length: u8) -> Tree {
+fn tree_of_depth_1(
+    fanout: u8,
+    leaf_length: u32,
+    node_offset: u64,
+    node_depth: u8,
+    inner_length: u8,
+) -> Tree {
     Tree {
         fanout,
         depth: 1,
@@ -124,7 +132,7 @@ fn at(fanout: u8, leaf_length: u32, node_offset: u64, node_depth: u8, inner_leng
 
 // Whether BLAKE2b reads the transcript of these words and entries as this input at its maximum
 // size, or as none.
-fn blake2b_reads(
+fn blake2b_reads_only_as(
     rt: &(impl Abort + AllocGlobal),
     words: [u64; 8],
     entries: &[Entry<128>],
@@ -138,17 +146,17 @@ fn blake2b_reads(
 }
 
 #[test]
-fn read_places(rt: HostRuntime) {
+fn transcripts_are_read_at_their_tree_place(rt: HostRuntime) {
     let block = [0x2a; 128];
     for (place, word, tree) in [
         (2, 0x10000, None),
         (2, 0x4100, None),
         (3, 1, None),
         (0, 0x00010040, None),
-        (2, 0x4001, Some(at(1, 0, 0, 1, 64))),
-        (0, 0x01000040, Some(at(0, 0, 0, 0, 0))),
-        (1, 1, Some(at(1, 0, 1, 0, 0))),
-        (0, 0x0000000701010040, Some(at(1, 7, 0, 0, 0))),
+        (2, 0x4001, Some(tree_of_depth_1(1, 0, 0, 1, 64))),
+        (0, 0x01000040, Some(tree_of_depth_1(0, 0, 0, 0, 0))),
+        (1, 1, Some(tree_of_depth_1(1, 0, 1, 0, 0))),
+        (0, 0x0000000701010040, Some(tree_of_depth_1(1, 7, 0, 0, 0))),
     ] {
         let mut words = [0x01010040, 0, 0, 0, 0, 0, 0, 0];
         words[place] = word;
@@ -160,13 +168,13 @@ fn read_places(rt: HostRuntime) {
             }),
             None => None,
         };
-        let is_read = blake2b_reads(&rt, words, &entries, wanted);
+        let is_read = blake2b_reads_only_as(&rt, words, &entries, wanted);
         assert!(rt; is_read, "{place} {word:x}");
     }
 }
 
 #[test]
-fn read_the_last_node(rt: HostRuntime) {
+fn last_node_flag_is_read_from_transcripts(rt: HostRuntime) {
     let message = [0x2a; 129];
     let words = [0x01010040, 0, 0, 0, 0, 0, 0, 0];
     for (first, second) in [(false, false), (false, true), (true, false), (true, true)] {
@@ -185,14 +193,14 @@ fn read_the_last_node(rt: HostRuntime) {
             ..unkeyed(&message)
         };
         let wanted = if first { None } else { Some(input) };
-        let is_read = blake2b_reads(&rt, words, &entries, wanted);
+        let is_read = blake2b_reads_only_as(&rt, words, &entries, wanted);
         assert!(rt; is_read, "{first} {second}");
     }
 }
 
 // The flag of the only entry, over no message, one of a byte and one of a block.
 #[test]
-fn read_the_last_node_in_one_entry(rt: HostRuntime) {
+fn last_node_flag_is_read_from_one_entry(rt: HostRuntime) {
     let message = [0x2a; 128];
     let words = [0x01010040, 0, 0, 0, 0, 0, 0, 0];
     for (length, last_node) in [
@@ -212,20 +220,20 @@ fn read_the_last_node_in_one_entry(rt: HostRuntime) {
             last_node,
             ..unkeyed(message)
         };
-        let is_read = blake2b_reads(&rt, words, &[told], Some(input));
+        let is_read = blake2b_reads_only_as(&rt, words, &[told], Some(input));
         assert!(rt; is_read, "{length} {last_node}");
     }
 }
 
 // The last step of BLAKE2b over `a` at the size 0, from the start words of this node offset.
-fn last_step(node_offset: u64, last_node: bool) -> Step<u64, 128> {
-    let mut last = blake2b_last(0x6a09e667f2bdc908, b"a", 1);
+fn last_step_over_a(node_offset: u64, last_node: bool) -> Step<u64, 128> {
+    let mut last = blake2b_last_step(0x6a09e667f2bdc908, b"a", 1);
     last.chain[1] ^= node_offset;
     Step { last_node, ..last }
 }
 
 #[test]
-fn witness_nodes(rt: HostRuntime) {
+fn witness_differs_by_node(rt: HostRuntime) {
     let alloc = rt.alloc();
     let a = unkeyed(b"a");
     for (node_offset, last_node) in [(0, true), (1, false), (1, true)] {
@@ -239,8 +247,8 @@ fn witness_nodes(rt: HostRuntime) {
             ..a
         };
         assert!(rt; Blake2bVarCore::accepts(&a) && Blake2bVarCore::accepts(&b));
-        let x = last_step(0, false);
-        let y = last_step(node_offset, last_node);
+        let x = last_step_over_a(0, false);
+        let y = last_step_over_a(node_offset, last_node);
         let found = Blake2bVarCore::witness(alloc, &a, &b, 0);
         assert!(rt; found == Ok(Some((x, y))), "{node_offset} {last_node}");
         for (a, b, output_size) in [(a, b, 64), (b, b, 0)] {

@@ -6,7 +6,7 @@ use blake2_compress::params::{Parameters, blake2b, blake2s};
 // The first parameter word of an unkeyed digest of 64 bytes, and its bytes: digest length 64,
 // key length 0, fanout 1, depth 1 and leaf length 0 (the BLAKE2 document, 2.8).
 #[test]
-fn first_word_without_a_key(rt: HostRuntime) {
+fn first_word_of_unkeyed_512_bits(rt: HostRuntime) {
     let [first, ..] = blake2b::parameter_words(&Parameters {
         output_size: 64,
         key_size: 0,
@@ -21,7 +21,7 @@ fn first_word_without_a_key(rt: HostRuntime) {
 // The words of a leaf and of the root of a tree of two levels, byte by byte as the parameter
 // block has its fields (the BLAKE2 document, 2.8).
 #[test]
-fn words_of_a_tree_blake2b(rt: HostRuntime) {
+fn words_of_leaf_and_root_of_blake2b(rt: HostRuntime) {
     let leaf = Tree {
         fanout: 0,
         depth: 2,
@@ -54,7 +54,7 @@ fn words_of_a_tree_blake2b(rt: HostRuntime) {
 
 // The same for BLAKE2s, whose node offset has 48 bits.
 #[test]
-fn words_of_a_tree_blake2s(rt: HostRuntime) {
+fn words_of_leaf_and_root_of_blake2s(rt: HostRuntime) {
     let node = Tree {
         fanout: 2,
         depth: 3,
@@ -76,7 +76,7 @@ fn words_of_a_tree_blake2s(rt: HostRuntime) {
 // The last of 48 bits' node offsets is accepted. The next is not, nor are an inner length past 32
 // or a tree without levels.
 #[test]
-fn trees_of_blake2s(rt: HostRuntime) {
+fn blake2s_accepts_48_bit_node_offsets(rt: HostRuntime) {
     let mut tree = Tree::sequential();
     tree.node_offset = (1 << 48) - 1;
     assert!(rt; blake2s::admits_tree(&tree));

@@ -21,7 +21,7 @@ pub fn is_authentic(key: &[u8], record: &[u8], tag: &[u8]) -> Result<bool, Inval
 }
 
 #[test]
-fn answer_as_hashlib_does(rt: HostRuntime) {
+fn examples_return_digests_of_hashlib(rt: HostRuntime) {
     let digest = "021ced8799296ceca557832ab941a50b4a11f83478cf141f51f933f653ab9fbc\
          c05a037cddbed06e309bf334942c4e58cdf1a46e237911ccd7fcf9787cbc7fd0";
     check_digits(&rt, &greeting(), digest);

@@ -11,7 +11,7 @@ const ABC: [u32; 16] = [0x636261, 0, 0, 0, 0, 0, 0, 0, 0, 0, 0, 0, 0, 0, 0, 0];
 // The words after one and after two rounds of BLAKE2b, as RFC 7693, appendix A, prints them. It
 // begins with the start words and IV, of which the counter 3 and the final flag are parts (3.2).
 #[test]
-fn two_rounds_of_blake2b(rt: HostRuntime) {
+fn two_rounds_of_blake2b_are_as_in_rfc_7693(rt: HostRuntime) {
     let m = ABC.map(|word| word as u64);
     let [first, second] = blake2b::to_rows(&BLAKE2B_IV);
     let mut v = [
@@ -38,7 +38,7 @@ fn two_rounds_of_blake2b(rt: HostRuntime) {
 
 // The same for BLAKE2s, as appendix B prints them.
 #[test]
-fn two_rounds_of_blake2s(rt: HostRuntime) {
+fn two_rounds_of_blake2s_are_as_in_rfc_7693(rt: HostRuntime) {
     let [first, second] = blake2s::to_rows(&BLAKE2S_IV);
     let mut v = [
         first ^ u32x4::new(0x01010020, 0, 0, 0),

@@ -3,7 +3,7 @@
 use blake2::rows::{u32x4, u64x4};
 
 #[test]
-fn turn_lanes(rt: HostRuntime) {
+fn shuffles_move_lanes(rt: HostRuntime) {
     let row = u32x4::new(1, 2, 3, 4);
     assert!(rt; row.shuffle_left_1().to_bytes() == u32x4::new(2, 3, 4, 1).to_bytes());
     assert!(rt; row.shuffle_left_2().to_bytes() == u32x4::new(3, 4, 1, 2).to_bytes());
@@ -12,7 +12,7 @@ fn turn_lanes(rt: HostRuntime) {
 }
 
 #[test]
-fn rotate_lanes(rt: HostRuntime) {
+fn rotations_turn_bits_of_each_lane(rt: HostRuntime) {
     let rotated = u32x4::new(1, 2, 3, 4).rotate_right_const(1);
     assert!(rt; rotated.to_bytes() == u32x4::new(2147483648, 1, 2147483649, 2).to_bytes());
     let row = u64x4::new(1, 2, 3, 4);
@@ -21,7 +21,7 @@ fn rotate_lanes(rt: HostRuntime) {
 }
 
 #[test]
-fn calculate_with_lanes(rt: HostRuntime) {
+fn sums_xors_and_gathers_are_by_lane(rt: HostRuntime) {
     let sum = u32x4::new(4294967295, 0, 0, 1) + u32x4::new(1, 1, 1, 1);
     assert!(rt; sum.to_bytes() == u32x4::new(0, 1, 1, 2).to_bytes());
     let differences = u32x4::new(1, 2, 3, 4) ^ u32x4::new(4, 3, 2, 1);
@@ -33,7 +33,7 @@ fn calculate_with_lanes(rt: HostRuntime) {
 }
 
 #[test]
-fn mix_zeros(rt: HostRuntime) {
+fn rounds_of_zeros_are_zeros(rt: HostRuntime) {
     let order = [0, 1, 2, 3, 4, 5, 6, 7, 8, 9, 10, 11, 12, 13, 14, 15];
     let zeros = u64x4::new(0, 0, 0, 0);
     let mut rows = [zeros, zeros, zeros, zeros];

@@ -14,7 +14,7 @@ const LINE: &[u8] = b"ba80a53f981c4d0d6a2797b69f12f6e94c212f14685ac4b74b12bb6fdb
 // Hashes `abc` between devices that move a limited number of bytes a call, the sink over this
 // room. Returns the result, whether the source and the sink have failed, and how many bytes the
 // sink accepted.
-fn hash_between(
+fn hash_abc_between_devices(
     most: usize,
     source_fails: Option<usize>,
     room: &mut [u8],
@@ -29,7 +29,7 @@ fn hash_between(
 }
 
 #[test]
-fn hash_between_little_devices(rt: HostRuntime) {
+fn hashing_between_slow_or_full_devices(rt: HostRuntime) {
     for (most, source_fails, size, sink_fails, answer, taken) in [
         (1, None, 129, None, Ok(3), 129),
         (129, Some(0), 129, None, Err(StreamFault::Read), 0),
@@ -43,7 +43,7 @@ fn hash_between_little_devices(rt: HostRuntime) {
     ] {
         assert!(rt; most >= 1 && size <= 129 && taken <= LINE.len().min(129));
         let mut room = [0u8; 129];
-        let (found, source_failed, sink_failed, written) = hash_between(
+        let (found, source_failed, sink_failed, written) = hash_abc_between_devices(
             most,
             source_fails,
             &mut room[..size],
@@ -60,7 +60,7 @@ fn hash_between_little_devices(rt: HostRuntime) {
 }
 
 #[test]
-fn fail_to_read_in_mid_stream(rt: HostRuntime) {
+fn read_error_in_mid_stream_is_returned(rt: HostRuntime) {
     let message = [0x2a; 300];
     let mut source = SliceSource::new(&message, 64, Some(100));
     let mut room = [0u8; 129];
@@ -73,7 +73,7 @@ fn fail_to_read_in_mid_stream(rt: HostRuntime) {
 }
 
 // Checks that a digest of no bytes is only a newline, over messages of each length.
-fn check_empty_lines<H: Digest<0> + Drop>(rt: &impl Abort)
+fn check_digest_of_no_bytes_is_a_newline<H: Digest<0> + Drop>(rt: &impl Abort)
     requires { H.is_supported }
 {
     let message = [0x2a; 257];
@@ -91,9 +91,9 @@ fn check_empty_lines<H: Digest<0> + Drop>(rt: &impl Abort)
 }
 
 #[test]
-fn hash_to_no_bytes(rt: HostRuntime) {
-    check_empty_lines::<Blake2b<0>>(&rt);
-    check_empty_lines::<Blake2s<0>>(&rt);
+fn digest_of_no_bytes_is_a_newline(rt: HostRuntime) {
+    check_digest_of_no_bytes_is_a_newline::<Blake2b<0>>(&rt);
+    check_digest_of_no_bytes_is_a_newline::<Blake2s<0>>(&rt);
     assert!(rt; Blake2bMac::<0>::new(&[1; 64]).verify_slice(b"").is_ok());
     assert!(rt; Blake2bMac::<0>::new(&[1; 64]).verify_slice(b"\0").is_err());
 }

@@ -11,7 +11,7 @@ use blake2::{
 use std::process::Abort;
 
 // Checks block and output of a core, and that outputs are cut from the left end.
-fn check_core<C, const B: usize, const M: usize>(rt: &impl Abort)
+fn check_sizes_of_core<C, const B: usize, const M: usize>(rt: &impl Abort)
 where
     C: BlockSizeUser
         + OutputSizeUser
@@ -25,7 +25,7 @@ where
 }
 
 // Checks block and output of a hasher.
-fn check_hasher<H: BlockSizeUser + OutputSizeUser + HashMarker + ZeroizeOnDrop>(
+fn check_sizes_of_hasher<H: BlockSizeUser + OutputSizeUser + HashMarker + ZeroizeOnDrop>(
     rt: &impl Abort,
     block: usize,
     output: usize,
@@ -37,7 +37,7 @@ fn check_hasher<H: BlockSizeUser + OutputSizeUser + HashMarker + ZeroizeOnDrop>(
 }
 
 // Checks longest key and output of a MAC.
-fn check_mac<M: KeySizeUser + OutputSizeUser + MacMarker + ZeroizeOnDrop>(
+fn check_sizes_of_mac<M: KeySizeUser + OutputSizeUser + MacMarker + ZeroizeOnDrop>(
     rt: &impl Abort,
     key: usize,
     output: usize,
@@ -49,22 +49,22 @@ fn check_mac<M: KeySizeUser + OutputSizeUser + MacMarker + ZeroizeOnDrop>(
 }
 
 #[test]
-fn tell_sizes(rt: HostRuntime) {
-    check_core::<Blake2bVarCore, 128, 64>(&rt);
-    check_core::<Blake2sVarCore, 64, 32>(&rt);
-    check_hasher::<Blake2b<0>>(&rt, 128, 0);
-    check_hasher::<Blake2b<63>>(&rt, 128, 63);
-    check_hasher::<Blake2b128>(&rt, 128, 16);
-    check_hasher::<Blake2b256>(&rt, 128, 32);
-    check_hasher::<Blake2b512>(&rt, 128, 64);
-    check_hasher::<Blake2s<0>>(&rt, 64, 0);
-    check_hasher::<Blake2s<31>>(&rt, 64, 31);
-    check_hasher::<Blake2s128>(&rt, 64, 16);
-    check_hasher::<Blake2s256>(&rt, 64, 32);
-    check_mac::<Blake2bMac<0>>(&rt, 64, 0);
-    check_mac::<Blake2bMac<20>>(&rt, 64, 20);
-    check_mac::<Blake2bMac512>(&rt, 64, 64);
-    check_mac::<Blake2sMac<0>>(&rt, 32, 0);
-    check_mac::<Blake2sMac<20>>(&rt, 32, 20);
-    check_mac::<Blake2sMac256>(&rt, 32, 32);
+fn block_key_and_output_sizes_are_right(rt: HostRuntime) {
+    check_sizes_of_core::<Blake2bVarCore, 128, 64>(&rt);
+    check_sizes_of_core::<Blake2sVarCore, 64, 32>(&rt);
+    check_sizes_of_hasher::<Blake2b<0>>(&rt, 128, 0);
+    check_sizes_of_hasher::<Blake2b<63>>(&rt, 128, 63);
+    check_sizes_of_hasher::<Blake2b128>(&rt, 128, 16);
+    check_sizes_of_hasher::<Blake2b256>(&rt, 128, 32);
+    check_sizes_of_hasher::<Blake2b512>(&rt, 128, 64);
+    check_sizes_of_hasher::<Blake2s<0>>(&rt, 64, 0);
+    check_sizes_of_hasher::<Blake2s<31>>(&rt, 64, 31);
+    check_sizes_of_hasher::<Blake2s128>(&rt, 64, 16);
+    check_sizes_of_hasher::<Blake2s256>(&rt, 64, 32);
+    check_sizes_of_mac::<Blake2bMac<0>>(&rt, 64, 0);
+    check_sizes_of_mac::<Blake2bMac<20>>(&rt, 64, 20);
+    check_sizes_of_mac::<Blake2bMac512>(&rt, 64, 64);
+    check_sizes_of_mac::<Blake2sMac<0>>(&rt, 32, 0);
+    check_sizes_of_mac::<Blake2sMac<20>>(&rt, 32, 20);
+    check_sizes_of_mac::<Blake2sMac256>(&rt, 32, 32);
 }

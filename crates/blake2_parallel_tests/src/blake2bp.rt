@@ -1,6 +1,6 @@
 //! BLAKE2bp.
 
-use crate::checks::{key, message, read, reads, thousand};
+use crate::checks::{has_hex_digits, key, message, read, thousand};
 use blake2_digest::{
     CustomizedInit, Digest, Duplicate, FixedOutputReset, KeyInit, Mac, Reset, Update, Wipe,
 };
@@ -38,7 +38,13 @@ fn update_or_abort(rt: &impl Abort, state: &mut State, input: &[u8]) {
 
 // Absorbs the message in pieces of this length, at least 1, and checks the digest, and that no
 // other is its digest.
-fn check(rt: &impl Abort, state: &mut State, message: &[u8], piece: usize, wanted: &str) {
+fn check_digest_in_pieces(
+    rt: &impl Abort,
+    state: &mut State,
+    message: &[u8],
+    piece: usize,
+    wanted: &str,
+) {
     assert!(rt; piece >= 1);
     for part in message.chunks(piece) {
         update_or_abort(rt, state, part);
@@ -47,7 +53,7 @@ fn check(rt: &impl Abort, state: &mut State, message: &[u8], piece: usize, wante
     let mut out = [0; 64];
     state.write_digest(&mut out);
     let digest = &out[..state.output_size];
-    assert!(rt; reads(digest, wanted), "{wanted}");
+    assert!(rt; has_hex_digits(digest, wanted), "{wanted}");
     assert!(rt;
         state.is_digest(digest) && !state.is_digest(&digest[1..]),
         "{wanted}"
@@ -55,7 +61,7 @@ fn check(rt: &impl Abort, state: &mut State, message: &[u8], piece: usize, wante
 }
 
 // Checks a table, each row in pieces of several lengths, and after a reset.
-fn check_table(rt: &impl Abort, size: usize, table: &str) {
+fn check_digests_of_table(rt: &impl Abort, size: usize, table: &str) {
     let message = message();
     let key = key();
     for row in table.lines() {
@@ -64,31 +70,31 @@ fn check_table(rt: &impl Abort, size: usize, table: &str) {
             assert!(rt; length <= 4096 && key_length <= 64);
             let made = State::init_salt_personal(size, &key[..key_length], &[], &[]);
             let mut state = made.expect(rt, row);
-            check(rt, &mut state, &message[..length], piece, digits);
+            check_digest_in_pieces(rt, &mut state, &message[..length], piece, digits);
             assert!(rt; state.is_ready());
             state.reset();
-            check(rt, &mut state, &message[..length], 700, digits);
+            check_digest_in_pieces(rt, &mut state, &message[..length], 700, digits);
         }
     }
 }
 
 #[test]
-fn digests_of_64_bytes(rt: HostRuntime) {
-    check_table(&rt, 64, ROWS_64);
+fn digests_of_64_bytes_are_known(rt: HostRuntime) {
+    check_digests_of_table(&rt, 64, ROWS_64);
 }
 
 #[test]
-fn digests_of_20_bytes(rt: HostRuntime) {
-    check_table(&rt, 20, ROWS_20);
+fn digests_of_20_bytes_are_known(rt: HostRuntime) {
+    check_digests_of_table(&rt, 20, ROWS_20);
 }
 
 #[test]
-fn salt_and_persona(rt: HostRuntime) {
+fn digests_with_salt_and_persona(rt: HostRuntime) {
     let salt = [1, 2, 3, 4, 5, 6, 7, 8, 9, 10, 11, 12, 13, 14, 15, 16];
     let made = State::init_salt_personal(64, &[], &salt, b"personal");
     let wanted = "952a91ce8edc821c0b2e6d489fc510a0c5ddaecb3895580040f2ed3c254e2715\
         069018f3cb0ca97b20141a34ba02e0a547f775b1faf601b46c003387fd4cb875";
-    check(
+    check_digest_in_pieces(
         &rt,
         &mut made.expect(&rt, "a state"),
         &thousand(),
@@ -98,7 +104,7 @@ fn salt_and_persona(rt: HostRuntime) {
 }
 
 #[test]
-fn refused_lengths(rt: HostRuntime) {
+fn wrong_lengths_are_refused(rt: HostRuntime) {
     let longer = [0; 65];
     assert!(&rt; State::init_salt_personal(0, &[], &[], &[]).is_err());
     assert!(&rt; State::init_salt_personal(65, &[], &[], &[]).is_err());
@@ -114,7 +120,7 @@ fn refused_lengths(rt: HostRuntime) {
 }
 
 // Absorbs an input through the trait, and checks the count.
-fn absorb<S: Update>(rt: &impl Abort, state: &mut S, input: &[u8]) {
+fn update_and_check_count<S: Update>(rt: &impl Abort, state: &mut S, input: &[u8]) {
     let before = state.counted();
     assert!(rt; before <= 0x1000 && input.len() <= 0x1000);
     state.update(input);
@@ -130,34 +136,37 @@ fn check_hasher<const N: usize, D: Digest<N> + Duplicate>(
 ) {
     let mut state = state;
     let (first, rest) = message.split_at(message.len() / 2);
-    absorb(rt, &mut state, first);
+    update_and_check_count(rt, &mut state, first);
     let mut copy = state.duplicate();
-    absorb(rt, &mut copy, rest);
-    absorb(rt, &mut state, rest);
+    update_and_check_count(rt, &mut copy, rest);
+    update_and_check_count(rt, &mut state, rest);
     assert!(rt;
-        reads(&Digest::finalize_reset(&mut state), wanted),
+        has_hex_digits(&Digest::finalize_reset(&mut state), wanted),
         "{wanted}"
     );
-    assert!(rt; reads(&Digest::finalize(copy), wanted), "a copy: {wanted}");
-    absorb(rt, &mut state, first);
+    assert!(rt;
+        has_hex_digits(&Digest::finalize(copy), wanted),
+        "a copy: {wanted}"
+    );
+    update_and_check_count(rt, &mut state, first);
     Reset::reset(&mut state);
-    absorb(rt, &mut state, message);
+    update_and_check_count(rt, &mut state, message);
     let mut out = [0; N];
     Digest::finalize_into(state, &mut out);
-    assert!(rt; reads(&out, wanted), "after resets: {wanted}");
+    assert!(rt; has_hex_digits(&out, wanted), "after resets: {wanted}");
 }
 
 #[test]
-fn a_hasher(rt: HostRuntime) {
+fn hasher_returns_known_digests(rt: HostRuntime) {
     let wanted = "69ac521f1a8acd09a194af280133b083ecd73065266b9d58838f174045291b7e\
         9897cf3b1dfb4e991168d8d3b68e90cebb1e56757f6ef7d96ff08164a031173c";
     let message = thousand();
-    assert!(&rt; reads(&Blake2bp::<64>::digest(&message), wanted));
+    assert!(&rt; has_hex_digits(&Blake2bp::<64>::digest(&message), wanted));
     check_hasher::<64, Blake2bp<64>>(&rt, Blake2bp::new(), &message, wanted);
 }
 
 #[test]
-fn a_customized_hasher(rt: HostRuntime) {
+fn hasher_with_persona(rt: HostRuntime) {
     let state = Blake2bp::<20>::new_customized(b"app");
     check_hasher::<20, Blake2bp<20>>(
         &rt,
@@ -168,7 +177,7 @@ fn a_customized_hasher(rt: HostRuntime) {
 }
 
 #[test]
-fn a_hasher_with_a_salt(rt: HostRuntime) {
+fn hasher_with_salt(rt: HostRuntime) {
     let salt = [1, 2, 3, 4, 5, 6, 7, 8, 9, 10, 11, 12, 13, 14, 15, 16];
     let state = Blake2bp::<64>::new_with_salt_and_personal(&salt, b"personal");
     let wanted = "952a91ce8edc821c0b2e6d489fc510a0c5ddaecb3895580040f2ed3c254e2715\
@@ -177,9 +186,9 @@ fn a_hasher_with_a_salt(rt: HostRuntime) {
 }
 
 #[test]
-fn a_wiped_hasher_starts_from_zeros(rt: HostRuntime) {
+fn wiped_hasher_starts_from_zeros(rt: HostRuntime) {
     let mut state = Blake2bp::<64>::new();
-    absorb(&rt, &mut state, b"abc");
+    update_and_check_count(&rt, &mut state, b"abc");
     Wipe::wipe(&mut state);
     assert!(&rt; Update::counted(&state) == 0);
 }
@@ -194,17 +203,17 @@ fn check_mac<const N: usize, M: Mac<N> + FixedOutputReset<N> + Duplicate>(
     let mut state = state;
     let (first, _) = message.split_at(message.len() / 2);
     assert!(rt; state.counted() == 512);
-    absorb(rt, &mut state, message);
+    update_and_check_count(rt, &mut state, message);
     let copy = state.duplicate();
     let tag = state.finalize_fixed_reset();
-    assert!(rt; reads(&tag, wanted), "{wanted}");
+    assert!(rt; has_hex_digits(&tag, wanted), "{wanted}");
     assert!(rt; copy.verify_slice(&tag).is_ok(), "{wanted}");
-    absorb(rt, &mut state, first);
+    update_and_check_count(rt, &mut state, first);
     assert!(rt; state.verify_slice(&tag).is_err(), "another message");
 }
 
 #[test]
-fn mac_of_the_longest_key(rt: HostRuntime) {
+fn mac_under_longest_key(rt: HostRuntime) {
     let wanted = "200f923e185654052623773efef43be8285eb7a12eb7f1df4c7bb9dccb1d744e\
         86cd0c77b902da414cb8e1e80128a995df8a1329cf6ad9352b1d01b626b22464";
     let mac = Blake2bpMac::<64>::new(&key());
@@ -212,7 +221,7 @@ fn mac_of_the_longest_key(rt: HostRuntime) {
 }
 
 #[test]
-fn mac_of_a_short_key(rt: HostRuntime) {
+fn mac_under_short_key(rt: HostRuntime) {
     let key = [1, 2, 3, 4, 5];
     let mac = Blake2bpMac::<20>::new_from_slice(&key).expect(&rt, "a MAC");
     check_mac::<20, Blake2bpMac<20>>(
@@ -232,7 +241,7 @@ fn mac_with_salt_and_persona(rt: HostRuntime) {
 }
 
 #[test]
-fn refused_macs(rt: HostRuntime) {
+fn wrong_mac_lengths_are_refused(rt: HostRuntime) {
     assert!(&rt; Blake2bpMac::<20>::new_from_slice(&[]).is_err());
     assert!(&rt; Blake2bpMac::<20>::new_from_slice(&[0; 65]).is_err());
     assert!(&rt; Blake2bpMac::<20>::new_with_salt_and_personal(b"k", &[0; 17], &[]).is_err());

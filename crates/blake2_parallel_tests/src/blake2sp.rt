@@ -1,6 +1,6 @@
 //! BLAKE2sp.
 
-use crate::checks::{key, message, read, reads, short_key, thousand};
+use crate::checks::{has_hex_digits, key, message, read, short_key, thousand};
 use blake2_digest::{
     CustomizedInit, Digest, Duplicate, FixedOutputReset, KeyInit, Mac, Reset, Update, Wipe,
 };
@@ -33,7 +33,13 @@ fn update_or_abort(rt: &impl Abort, state: &mut State, input: &[u8]) {
 
 // Absorbs the message in pieces of this length, at least 1, and checks the digest, and that no
 // other is its digest.
-fn check(rt: &impl Abort, state: &mut State, message: &[u8], piece: usize, wanted: &str) {
+fn check_digest_in_pieces(
+    rt: &impl Abort,
+    state: &mut State,
+    message: &[u8],
+    piece: usize,
+    wanted: &str,
+) {
     assert!(rt; piece >= 1);
     for part in message.chunks(piece) {
         update_or_abort(rt, state, part);
@@ -42,7 +48,7 @@ fn check(rt: &impl Abort, state: &mut State, message: &[u8], piece: usize, wante
     let mut out = [0; 32];
     state.write_digest(&mut out);
     let digest = &out[..state.output_size];
-    assert!(rt; reads(digest, wanted), "{wanted}");
+    assert!(rt; has_hex_digits(digest, wanted), "{wanted}");
     assert!(rt;
         state.is_digest(digest) && !state.is_digest(&digest[1..]),
         "{wanted}"
@@ -50,7 +56,7 @@ fn check(rt: &impl Abort, state: &mut State, message: &[u8], piece: usize, wante
 }
 
 // Checks a table, each row in pieces of several lengths, and after a reset.
-fn check_table(rt: &impl Abort, size: usize, table: &str) {
+fn check_digests_of_table(rt: &impl Abort, size: usize, table: &str) {
     let message = message();
     let key = key();
     for row in table.lines() {
@@ -59,30 +65,30 @@ fn check_table(rt: &impl Abort, size: usize, table: &str) {
             assert!(rt; length <= 4096 && key_length <= 64);
             let made = State::init_salt_personal(size, &key[..key_length], &[], &[]);
             let mut state = made.expect(rt, row);
-            check(rt, &mut state, &message[..length], piece, digits);
+            check_digest_in_pieces(rt, &mut state, &message[..length], piece, digits);
             assert!(rt; state.is_ready());
             state.reset();
-            check(rt, &mut state, &message[..length], 700, digits);
+            check_digest_in_pieces(rt, &mut state, &message[..length], 700, digits);
         }
     }
 }
 
 #[test]
-fn digests_of_32_bytes(rt: HostRuntime) {
-    check_table(&rt, 32, ROWS_32);
+fn digests_of_32_bytes_are_known(rt: HostRuntime) {
+    check_digests_of_table(&rt, 32, ROWS_32);
 }
 
 #[test]
-fn digests_of_20_bytes(rt: HostRuntime) {
-    check_table(&rt, 20, ROWS_20);
+fn digests_of_20_bytes_are_known(rt: HostRuntime) {
+    check_digests_of_table(&rt, 20, ROWS_20);
 }
 
 #[test]
-fn salt_and_persona(rt: HostRuntime) {
+fn digests_with_salt_and_persona(rt: HostRuntime) {
     let salt = [1, 2, 3, 4, 5, 6, 7, 8];
     let made = State::init_salt_personal(32, &[], &salt, b"personal");
     let wanted = "8a59e9a72ccd5042b6af3137a3381715807aea1b0ffd7ecc0c0d05e3f47fc4d3";
-    check(
+    check_digest_in_pieces(
         &rt,
         &mut made.expect(&rt, "a state"),
         &thousand(),
@@ -92,7 +98,7 @@ fn salt_and_persona(rt: HostRuntime) {
 }
 
 #[test]
-fn refused_lengths(rt: HostRuntime) {
+fn wrong_lengths_are_refused(rt: HostRuntime) {
     let longer = [0; 65];
     assert!(&rt; State::init_salt_personal(0, &[], &[], &[]).is_err());
     assert!(&rt; State::init_salt_personal(33, &[], &[], &[]).is_err());
@@ -108,7 +114,7 @@ fn refused_lengths(rt: HostRuntime) {
 }
 
 // Absorbs an input through the trait, and checks the count.
-fn absorb<S: Update>(rt: &impl Abort, state: &mut S, input: &[u8]) {
+fn update_and_check_count<S: Update>(rt: &impl Abort, state: &mut S, input: &[u8]) {
     let before = state.counted();
     assert!(rt; before <= 0x1000 && input.len() <= 0x1000);
     state.update(input);
@@ -124,33 +130,36 @@ fn check_hasher<const N: usize, D: Digest<N> + Duplicate>(
 ) {
     let mut state = state;
     let (first, rest) = message.split_at(message.len() / 2);
-    absorb(rt, &mut state, first);
+    update_and_check_count(rt, &mut state, first);
     let mut copy = state.duplicate();
-    absorb(rt, &mut copy, rest);
-    absorb(rt, &mut state, rest);
+    update_and_check_count(rt, &mut copy, rest);
+    update_and_check_count(rt, &mut state, rest);
     assert!(rt;
-        reads(&Digest::finalize_reset(&mut state), wanted),
+        has_hex_digits(&Digest::finalize_reset(&mut state), wanted),
         "{wanted}"
     );
-    assert!(rt; reads(&Digest::finalize(copy), wanted), "a copy: {wanted}");
-    absorb(rt, &mut state, first);
+    assert!(rt;
+        has_hex_digits(&Digest::finalize(copy), wanted),
+        "a copy: {wanted}"
+    );
+    update_and_check_count(rt, &mut state, first);
     Reset::reset(&mut state);
-    absorb(rt, &mut state, message);
+    update_and_check_count(rt, &mut state, message);
     let mut out = [0; N];
     Digest::finalize_into(state, &mut out);
-    assert!(rt; reads(&out, wanted), "after resets: {wanted}");
+    assert!(rt; has_hex_digits(&out, wanted), "after resets: {wanted}");
 }
 
 #[test]
-fn a_hasher(rt: HostRuntime) {
+fn hasher_returns_known_digests(rt: HostRuntime) {
     let wanted = "3c3c7fbb3c9b5165f3a88557999b8e15669e6bb235762a25747935fb52632175";
     let message = thousand();
-    assert!(&rt; reads(&Blake2sp::<32>::digest(&message), wanted));
+    assert!(&rt; has_hex_digits(&Blake2sp::<32>::digest(&message), wanted));
     check_hasher::<32, Blake2sp<32>>(&rt, Blake2sp::new(), &message, wanted);
 }
 
 #[test]
-fn a_customized_hasher(rt: HostRuntime) {
+fn hasher_with_persona(rt: HostRuntime) {
     let state = Blake2sp::<20>::new_customized(b"app");
     check_hasher::<20, Blake2sp<20>>(
         &rt,
@@ -161,7 +170,7 @@ fn a_customized_hasher(rt: HostRuntime) {
 }
 
 #[test]
-fn a_hasher_with_a_salt(rt: HostRuntime) {
+fn hasher_with_salt(rt: HostRuntime) {
     let salt = [1, 2, 3, 4, 5, 6, 7, 8];
     let state = Blake2sp::<32>::new_with_salt_and_personal(&salt, b"personal");
     let wanted = "8a59e9a72ccd5042b6af3137a3381715807aea1b0ffd7ecc0c0d05e3f47fc4d3";
@@ -169,9 +178,9 @@ fn a_hasher_with_a_salt(rt: HostRuntime) {
 }
 
 #[test]
-fn a_wiped_hasher_starts_from_zeros(rt: HostRuntime) {
+fn wiped_hasher_starts_from_zeros(rt: HostRuntime) {
     let mut state = Blake2sp::<32>::new();
-    absorb(&rt, &mut state, b"abc");
+    update_and_check_count(&rt, &mut state, b"abc");
     Wipe::wipe(&mut state);
     assert!(&rt; Update::counted(&state) == 0);
 }
@@ -186,24 +195,24 @@ fn check_mac<const N: usize, M: Mac<N> + FixedOutputReset<N> + Duplicate>(
     let mut state = state;
     let (first, _) = message.split_at(message.len() / 2);
     assert!(rt; state.counted() == 512);
-    absorb(rt, &mut state, message);
+    update_and_check_count(rt, &mut state, message);
     let copy = state.duplicate();
     let tag = state.finalize_fixed_reset();
-    assert!(rt; reads(&tag, wanted), "{wanted}");
+    assert!(rt; has_hex_digits(&tag, wanted), "{wanted}");
     assert!(rt; copy.verify_slice(&tag).is_ok(), "{wanted}");
-    absorb(rt, &mut state, first);
+    update_and_check_count(rt, &mut state, first);
     assert!(rt; state.verify_slice(&tag).is_err(), "another message");
 }
 
 #[test]
-fn mac_of_the_longest_key(rt: HostRuntime) {
+fn mac_under_longest_key(rt: HostRuntime) {
     let wanted = "bb91bd744d197022e97a691e9074427ca22a4cc2645ba9ffb1fc425354bf2237";
     let mac = Blake2spMac::<32>::new(&short_key());
     check_mac::<32, Blake2spMac<32>>(&rt, mac, &thousand(), wanted);
 }
 
 #[test]
-fn mac_of_a_short_key(rt: HostRuntime) {
+fn mac_under_short_key(rt: HostRuntime) {
     let key = [1, 2, 3, 4, 5];
     let mac = Blake2spMac::<20>::new_from_slice(&key).expect(&rt, "a MAC");
     check_mac::<20, Blake2spMac<20>>(
@@ -222,7 +231,7 @@ fn mac_with_salt_and_persona(rt: HostRuntime) {
 }
 
 #[test]
-fn refused_macs(rt: HostRuntime) {
+fn wrong_mac_lengths_are_refused(rt: HostRuntime) {
     assert!(&rt; Blake2spMac::<20>::new_from_slice(&[]).is_err());
     assert!(&rt; Blake2spMac::<20>::new_from_slice(&[0; 33]).is_err());
     assert!(&rt; Blake2spMac::<20>::new_with_salt_and_personal(b"k", &[0; 9], &[]).is_err());

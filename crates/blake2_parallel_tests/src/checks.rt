@@ -3,7 +3,7 @@
 use std::process::Abort;
 
 // A row: the length of the message, that of the key, and the digest.
-fn numbers(row: &str) -> Option<(usize, usize, &str)> {
+fn parse_row(row: &str) -> Option<(usize, usize, &str)> {
     let (length, rest) = row.split_once(' ')?;
     let (key_length, digits) = rest.split_once(' ')?;
     Some((length.parse().ok()?, key_length.parse().ok()?, digits))
@@ -11,7 +11,7 @@ fn numbers(row: &str) -> Option<(usize, usize, &str)> {
 
 /// What a row says. The lengths fit the tests' buffers.
 pub(crate) fn read<'a>(rt: &impl Abort, row: &'a str) -> (usize, usize, &'a str) {
-    let (length, key_length, digits) = numbers(row).expect(rt, row);
+    let (length, key_length, digits) = parse_row(row).expect(rt, row);
     assert!(rt; length <= 4096 && key_length <= 64, "{row}");
     (length, key_length, digits)
 }
@@ -53,7 +53,7 @@ pub(crate) fn short_key() -> [u8; 32] {
 }
 
 /// Whether these digits, two for each byte, are the bytes in hexadecimal.
-pub(crate) fn reads(bytes: &[u8], digits: &str) -> bool {
+pub(crate) fn has_hex_digits(bytes: &[u8], digits: &str) -> bool {
     let mut decoded = [0u8; 64];
     match decoded.get_mut(..bytes.len()) {
         Some(room) => hex::decode_to_slice(digits, room).is_ok() && *room == *bytes,

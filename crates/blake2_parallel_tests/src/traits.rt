@@ -12,7 +12,7 @@ use std::fmt;
 use std::process::Abort;
 
 // Checks block and output of a hasher.
-fn check_hasher<H: BlockSizeUser + OutputSizeUser + HashMarker + ZeroizeOnDrop>(
+fn check_sizes_of_hasher<H: BlockSizeUser + OutputSizeUser + HashMarker + ZeroizeOnDrop>(
     rt: &impl Abort,
     block: usize,
     output: usize,
@@ -24,7 +24,7 @@ fn check_hasher<H: BlockSizeUser + OutputSizeUser + HashMarker + ZeroizeOnDrop>(
 }
 
 // Checks longest key and output of a MAC.
-fn check_mac<M: KeySizeUser + OutputSizeUser + MacMarker + ZeroizeOnDrop>(
+fn check_sizes_of_mac<M: KeySizeUser + OutputSizeUser + MacMarker + ZeroizeOnDrop>(
     rt: &impl Abort,
     key: usize,
     output: usize,
@@ -36,15 +36,15 @@ fn check_mac<M: KeySizeUser + OutputSizeUser + MacMarker + ZeroizeOnDrop>(
 }
 
 #[test]
-fn sizes(rt: HostRuntime) {
-    check_hasher::<Blake2bp<0>>(&rt, 128, 0);
-    check_hasher::<Blake2bp<64>>(&rt, 128, 64);
-    check_hasher::<Blake2sp<0>>(&rt, 64, 0);
-    check_hasher::<Blake2sp<32>>(&rt, 64, 32);
-    check_mac::<Blake2bpMac<20>>(&rt, 64, 20);
-    check_mac::<Blake2bpMac<64>>(&rt, 64, 64);
-    check_mac::<Blake2spMac<20>>(&rt, 32, 20);
-    check_mac::<Blake2spMac<32>>(&rt, 32, 32);
+fn block_key_and_output_sizes_are_right(rt: HostRuntime) {
+    check_sizes_of_hasher::<Blake2bp<0>>(&rt, 128, 0);
+    check_sizes_of_hasher::<Blake2bp<64>>(&rt, 128, 64);
+    check_sizes_of_hasher::<Blake2sp<0>>(&rt, 64, 0);
+    check_sizes_of_hasher::<Blake2sp<32>>(&rt, 64, 32);
+    check_sizes_of_mac::<Blake2bpMac<20>>(&rt, 64, 20);
+    check_sizes_of_mac::<Blake2bpMac<64>>(&rt, 64, 64);
+    check_sizes_of_mac::<Blake2spMac<20>>(&rt, 32, 20);
+    check_sizes_of_mac::<Blake2spMac<32>>(&rt, 32, 32);
 }
 
 // Checks that a clone has the output of the original, that a wiped state has another, and that it
@@ -63,7 +63,7 @@ fn check_clone<S: FixedOutput<N> + Clone + Wipe + Drop, const N: usize>(rt: &imp
 }
 
 #[test]
-fn clones(rt: HostRuntime) {
+fn clones_have_the_same_output(rt: HostRuntime) {
     check_clone::<Blake2bp<64>, 64>(&rt, Blake2bp::new_with_salt_and_personal(b"", b""));
     check_clone::<Blake2sp<32>, 32>(&rt, Blake2sp::new_with_salt_and_personal(b"", b""));
     check_clone::<Blake2bpMac<64>, 64>(&rt, Blake2bpMac::new(&[0x2a; 64]));
@@ -82,7 +82,7 @@ where
 }
 
 #[test]
-fn printed_macs(rt: HostRuntime) {
+fn debug_of_macs_shows_no_key(rt: HostRuntime) {
     check_debug::<Blake2bpMac<1>, 64>(&rt, "Blake2bpMac1 { ... }");
     check_debug::<Blake2bpMac<64>, 64>(&rt, "Blake2bpMac64 { ... }");
     check_debug::<Blake2spMac<0>, 32>(&rt, "Blake2spMac0 { ... }");

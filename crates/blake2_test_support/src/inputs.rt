@@ -42,7 +42,7 @@ pub const CALLS: [Call<'static>; 7] = [
 pub const LENGTHS: [usize; 11] = [0, 1, 63, 64, 65, 127, 128, 129, 255, 256, 257];
 
 /// A node's place: the eighth of its level, over leaves, in a tree of two levels.
-pub fn place() -> Tree {
+pub fn non_root_tree_node() -> Tree {
     Tree {
         fanout: 3,
         depth: 2,
@@ -54,20 +54,20 @@ pub fn place() -> Tree {
 }
 
 /// Fills the bytes with 0 to 250, again and again.
-pub fn count_up(bytes: &mut [u8]) {
+pub fn fill_with_counting_bytes(bytes: &mut [u8]) {
     for (i, byte) in bytes.iter_mut().enumerate() {
         *byte = (i % 251) as u8;
     }
 }
 
 /// The number that a row begins with, and what is after it and a bar.
-pub fn numbered(row: &str) -> Option<(usize, &str)> {
+pub fn split_leading_number(row: &str) -> Option<(usize, &str)> {
     let (number, rest) = row.split_once('|')?;
     Some((number.parse().ok()?, rest))
 }
 
 /// Whether these digits, two for each byte, are the bytes in hexadecimal.
-pub fn reads(bytes: &[u8], digits: &str) -> bool {
+pub fn has_hex_digits(bytes: &[u8], digits: &str) -> bool {
     let mut decoded = [0u8; 128];
     match decoded.get_mut(..bytes.len()) {
         Some(room) => hex::decode_to_slice(digits, room).is_ok() && *room == *bytes,
@@ -145,7 +145,7 @@ pub fn step<W: Drop, const B: usize>(
 
 /// A last step of BLAKE2b, whose chaining words are the start words after the first of them: IV's
 /// (RFC 7693, 2.6).
-pub fn blake2b_last(first_word: u64, beginning: &[u8], counter: u64) -> Step<u64, 128>
+pub fn blake2b_last_step(first_word: u64, beginning: &[u8], counter: u64) -> Step<u64, 128>
     requires { length beginning.now ≤ 128 }
 {
     let chain = [
@@ -162,7 +162,7 @@ pub fn blake2b_last(first_word: u64, beginning: &[u8], counter: u64) -> Step<u64
 }
 
 /// A last step of BLAKE2s, whose chaining words are the start words after the first of them.
-pub fn blake2s_last(first_word: u32, beginning: &[u8], counter: u64) -> Step<u32, 64>
+pub fn blake2s_last_step(first_word: u32, beginning: &[u8], counter: u64) -> Step<u32, 64>
     requires { length beginning.now ≤ 64 }
 {
     let chain = [
@@ -198,7 +198,7 @@ pub fn reading<const S: usize>(
 }
 
 /// The input that a reading names.
-pub fn read_input<'a, const S: usize>(read: &'a Reading<S>) -> Input<'a> {
+pub fn input_of_reading<'a, const S: usize>(read: &'a Reading<S>) -> Input<'a> {
     let key = match &read.key {
         Some(key) => Some(key.as_slice()),
         None => None,

@@ -16,7 +16,10 @@ pub const TRIES: usize = 512;
 /// A process has 2^47 bytes of addresses, and a machine with a GiB of memory grants blocks of half
 /// of that, so that 300,000 blocks are enough; there is room for them from the start. The turns
 /// are more than the blocks and the sizes together, so that the smallest size ends the loop.
-pub fn hoard(alloc: Global, spare_bytes: usize) -> Result<Vec<Vec<u8>>, AllocError> {
+pub fn allocate_all_memory_but(
+    alloc: Global,
+    spare_bytes: usize,
+) -> Result<Vec<Vec<u8>>, AllocError> {
     let mut blocks = Vec::with_capacity(alloc, 300_000)?;
     let spare: Vec<u8> = Vec::with_capacity(alloc, spare_bytes)?;
     let mut size = 1usize << 46;
@@ -34,14 +37,14 @@ pub fn hoard(alloc: Global, spare_bytes: usize) -> Result<Vec<Vec<u8>>, AllocErr
 }
 
 /// Allocates the spare bytes that a hoard left, except a number of them.
-pub fn plug(alloc: Global, left: usize) -> Result<Vec<u8>, AllocError>
+pub fn allocate_spare_bytes_but(alloc: Global, left: usize) -> Result<Vec<u8>, AllocError>
     requires { left ≤ 65536 }
 {
     Vec::with_capacity(alloc, SPARE_BYTES - left)
 }
 
 /// Whether requests for a byte of memory, and for sixteen, are refused.
-pub fn is_refused(alloc: Global) -> bool {
+pub fn are_small_allocations_refused(alloc: Global) -> bool {
     let one: Result<Vec<u8>, AllocError> = Vec::with_capacity(alloc, 1);
     let sixteen: Result<Vec<u8>, AllocError> = Vec::with_capacity(alloc, 16);
     one.is_err() && sixteen.is_err()

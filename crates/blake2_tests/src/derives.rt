@@ -12,7 +12,7 @@ use std::fmt;
 use std::process::Abort;
 
 // Checks that each value is equal only to itself.
-fn check_different<T: Eq>(rt: &impl Abort, values: &[T]) {
+fn check_values_are_all_different<T: Eq>(rt: &impl Abort, values: &[T]) {
     for (i, value) in values.iter().enumerate() {
         for (j, other) in values.iter().enumerate() {
             assert!(rt; (value == other) == (i == j), "{i} {j}");
@@ -27,8 +27,8 @@ fn check_debug<T: fmt::Debug>(rt: &(impl Abort + AllocGlobal), value: &T, wanted
 }
 
 // Checks the copies and clones of values, no two of which are equal.
-fn check_copies<T: Copy + Eq>(rt: &impl Abort, values: &[T]) {
-    check_different(rt, values);
+fn check_copies_are_equal<T: Copy + Eq>(rt: &impl Abort, values: &[T]) {
+    check_values_are_all_different(rt, values);
     for (i, value) in values.iter().enumerate() {
         let copy = *value;
         let clone: Result<T, AllocError> = value.clone();
@@ -37,7 +37,7 @@ fn check_copies<T: Copy + Eq>(rt: &impl Abort, values: &[T]) {
 }
 
 // Checks that what `Debug` writes of the value begins with its name.
-fn check_name<T: fmt::Debug>(rt: &(impl Abort + AllocGlobal), value: &T, name: &str) {
+fn check_debug_begins_with<T: fmt::Debug>(rt: &(impl Abort + AllocGlobal), value: &T, name: &str) {
     let text = format!(in rt.alloc(); "{value:?}").expect(rt, name);
     assert!(rt;
         text.as_str().starts_with(name),
@@ -59,19 +59,19 @@ const REPLAY_FAULTS: [ReplayFault; 4] = [
 ];
 
 #[test]
-fn copy_faults(rt: HostRuntime) {
-    check_copies(&rt, &[InvalidOutputSize]);
-    check_copies(&rt, &[InvalidLength]);
-    check_copies(&rt, &[MacError]);
-    check_copies(&rt, &[DeviceError]);
-    check_copies(&rt, &[Lazy]);
-    check_copies(&rt, &[TruncSide::Left, TruncSide::Right]);
-    check_copies(&rt, &STREAM_FAULTS);
-    check_copies(&rt, &REPLAY_FAULTS);
+fn faults_copy_and_compare(rt: HostRuntime) {
+    check_copies_are_equal(&rt, &[InvalidOutputSize]);
+    check_copies_are_equal(&rt, &[InvalidLength]);
+    check_copies_are_equal(&rt, &[MacError]);
+    check_copies_are_equal(&rt, &[DeviceError]);
+    check_copies_are_equal(&rt, &[Lazy]);
+    check_copies_are_equal(&rt, &[TruncSide::Left, TruncSide::Right]);
+    check_copies_are_equal(&rt, &STREAM_FAULTS);
+    check_copies_are_equal(&rt, &REPLAY_FAULTS);
 }
 
 #[test]
-fn print_faults(rt: HostRuntime) {
+fn debug_of_faults(rt: HostRuntime) {
     let faults = (DeviceError, STREAM_FAULTS, REPLAY_FAULTS);
     let wanted = "(DeviceError, [Read, TooLong, Write], \
                   [NoSuchSlot(1), NoSuchSlot(2), TooLong(1), Memory])";
@@ -88,7 +88,7 @@ fn print_faults(rt: HostRuntime) {
 }
 
 #[test]
-fn copy_entries(rt: HostRuntime) {
+fn entries_copy_and_compare(rt: HostRuntime) {
     let first = entry(b"a", 1, true);
     let entries: [Entry<64>; 5] = [
         first,
@@ -100,11 +100,11 @@ fn copy_entries(rt: HostRuntime) {
             ..first
         },
     ];
-    check_copies(&rt, &entries);
+    check_copies_are_equal(&rt, &entries);
 }
 
 #[test]
-fn copy_steps(rt: HostRuntime) {
+fn steps_copy_and_compare(rt: HostRuntime) {
     let chain = [1, 2, 3, 4, 5, 6, 7, 8];
     let last = step(chain, &[9; 128], 10, true);
     let steps: [Step<u64, 128>; 6] = [
@@ -118,7 +118,7 @@ fn copy_steps(rt: HostRuntime) {
             ..last
         },
     ];
-    check_copies(&rt, &steps);
+    check_copies_are_equal(&rt, &steps);
 }
 
 // Two steps that differ in their blocks.
@@ -131,9 +131,9 @@ fn two_steps() -> [Step<u64, 128>; 2] {
 }
 
 #[test]
-fn copy_witnesses_of_trees(rt: HostRuntime) {
+fn tree_witnesses_copy_and_compare(rt: HostRuntime) {
     let [x, y] = two_steps();
-    check_copies(
+    check_copies_are_equal(
         &rt,
         &[
             TreeWitness::Root(x, y),
@@ -142,7 +142,7 @@ fn copy_witnesses_of_trees(rt: HostRuntime) {
             TreeWitness::Leaf(0, x, y),
         ],
     );
-    check_copies(
+    check_copies_are_equal(
         &rt,
         &[
             TreeWitness::Leaf(0, x, y),
@@ -154,15 +154,15 @@ fn copy_witnesses_of_trees(rt: HostRuntime) {
 }
 
 #[test]
-fn print_witnesses_and_places(rt: HostRuntime) {
+fn debug_of_witnesses_and_trees(rt: HostRuntime) {
     let [x, y] = two_steps();
-    check_name(&rt, &TreeWitness::Root(x, y), "Root(Step");
-    check_name(&rt, &TreeWitness::Leaf(7, x, y), "Leaf(7, Step");
-    check_name(&rt, &Tree::sequential(), "Tree");
+    check_debug_begins_with(&rt, &TreeWitness::Root(x, y), "Root(Step");
+    check_debug_begins_with(&rt, &TreeWitness::Leaf(7, x, y), "Leaf(7, Step");
+    check_debug_begins_with(&rt, &Tree::sequential(), "Tree");
 }
 
 // Tree parameters, each of which differs from the first in one number at most.
-fn places() -> [Tree; 7] {
+fn trees_with_one_number_changed() -> [Tree; 7] {
     let whole = Tree::sequential();
     [
         whole,
@@ -188,12 +188,12 @@ fn places() -> [Tree; 7] {
 }
 
 #[test]
-fn copy_places_in_trees(rt: HostRuntime) {
-    check_copies(&rt, &places());
+fn trees_copy_and_compare(rt: HostRuntime) {
+    check_copies_are_equal(&rt, &trees_with_one_number_changed());
 }
 
 #[test]
-fn copy_lanes(rt: HostRuntime) {
+fn lanes_copy_and_compare(rt: HostRuntime) {
     let row = u64x4::new(1, 2, 3, 4);
     let copy = row;
     assert!(rt; copy.to_bytes() == row.to_bytes());
@@ -205,15 +205,15 @@ fn copy_lanes(rt: HostRuntime) {
 }
 
 #[test]
-fn copy_calls(rt: HostRuntime) {
+fn calls_copy_and_compare(rt: HostRuntime) {
     let call = Call::Update(7, b"abc");
     let copy = call;
     assert!(rt; matches!(copy, Call::Update(7, b"abc")));
     assert!(rt; matches!(call.clone(), Ok(Call::Update(7, b"abc"))));
 }
 
-// Whether the input has the parts of the one that `copy_inputs` copies.
-fn is_given(input: &Input<'_>) -> bool {
+// Whether the input has the parts of the one that `inputs_copy_and_keep_their_parts` copies.
+fn has_parts_of_copied_input(input: &Input<'_>) -> bool {
     matches!(input.key, Some(key) if key == b"key".as_slice())
         && input.salt == b"salt".as_slice()
         && input.persona == b"persona".as_slice()
@@ -223,7 +223,7 @@ fn is_given(input: &Input<'_>) -> bool {
 }
 
 #[test]
-fn copy_inputs(rt: HostRuntime) {
+fn inputs_copy_and_keep_their_parts(rt: HostRuntime) {
     let given = Input {
         tree: Tree {
             node_offset: 1,
@@ -233,13 +233,13 @@ fn copy_inputs(rt: HostRuntime) {
         ..input(Some(b"key"), b"salt", b"persona", b"message")
     };
     let copy = given;
-    assert!(rt; is_given(&given));
-    assert!(rt; is_given(&copy));
-    assert!(rt; matches!(given.clone(), Ok(clone) if is_given(&clone)));
+    assert!(rt; has_parts_of_copied_input(&given));
+    assert!(rt; has_parts_of_copied_input(&copy));
+    assert!(rt; matches!(given.clone(), Ok(clone) if has_parts_of_copied_input(&clone)));
 }
 
 #[test]
-fn compare_transcripts(rt: HostRuntime) {
+fn transcripts_compare_and_clone(rt: HostRuntime) {
     let words = [1u32, 2, 3, 4, 5, 6, 7, 8];
     let entries: [Entry<64>; 2] = [entry(b"a", 64, false), entry(b"b", 65, true)];
     let mut transcripts = Vec::new(rt.alloc());
@@ -252,11 +252,11 @@ fn compare_transcripts(rt: HostRuntime) {
         let told = transcript(rt.alloc(), words, entries).expect(&rt, "room for entries");
         transcripts.push(told).expect(&rt, "room for a transcript");
     }
-    check_different(&rt, transcripts.as_slice());
+    check_values_are_all_different(&rt, transcripts.as_slice());
 }
 
 #[test]
-fn compare_readings(rt: HostRuntime) {
+fn readings_compare_and_clone(rt: HostRuntime) {
     let whole = unkeyed(b"message");
     let tree = Tree {
         node_depth: 1,
@@ -283,5 +283,5 @@ fn compare_readings(rt: HostRuntime) {
         let read = reading(rt.alloc(), &given, output_size).expect(&rt, "room for its parts");
         readings.push(read).expect(&rt, "room for a reading");
     }
-    check_different(&rt, readings.as_slice());
+    check_values_are_all_different(&rt, readings.as_slice());
 }

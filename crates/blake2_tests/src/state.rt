@@ -7,10 +7,10 @@ mod roots;
 
 use blake2::Tree;
 use blake2_state::StateParameters;
-pub(crate) use leaves::root_by_state;
+pub(crate) use leaves::root_by_state_from_leaf_digests;
 
 // What a keyed state is made from.
-fn keyed<'a>() -> StateParameters<'a> {
+fn keyed_state_parameters<'a>() -> StateParameters<'a> {
     StateParameters {
         output_size: 20,
         key: b"key",
@@ -20,7 +20,7 @@ fn keyed<'a>() -> StateParameters<'a> {
 }
 
 // A node of a tree whose digests below the root have this length.
-fn node(inner_length: u8) -> Tree {
+fn node_with_inner_length(inner_length: u8) -> Tree {
     Tree {
         fanout: 2,
         depth: 3,

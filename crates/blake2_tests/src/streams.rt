@@ -51,32 +51,32 @@ impl FixedOutput<4> for PolynomialHash {
     }
 }
 
-fn fresh() -> PolynomialHash
+fn new_polynomial_hash() -> PolynomialHash
     ensures { result ≡ record { value = 0; count = 0 } }
 {
     PolynomialHash { value: 0, count: 0 }
 }
 
 // The line of some bytes, through a reader and a writer that say which bytes they have.
-fn line_in_memory(alloc: Global, bytes: &[u8]) -> Result<Vec<u8>, StreamFault>
+fn digest_line_in_memory(alloc: Global, bytes: &[u8]) -> Result<Vec<u8>, StreamFault>
     ensures { IfOk result (λ line. line.items ≡ line_of (to_be_bytes w32
         (fold (λ a b. (a * 31 % 2 ^ 32 + b) % 2 ^ 32) 0 bytes.now))) }
 {
     let mut source = IoSource::new(bytes);
     let mut sink = IoSink::new(Vec::new(alloc));
-    hash_stream(&mut source, &mut sink, fresh())?;
+    hash_stream(&mut source, &mut sink, new_polynomial_hash())?;
     Ok(sink.into_inner())
 }
 
 #[test]
-fn writes_the_line(rt: HostRuntime) {
+fn stream_writes_the_digest_line(rt: HostRuntime) {
     let many = [b'a'; 10000];
     for (bytes, line) in [
         ("".as_bytes(), "00000000\n"),
         ("abc".as_bytes(), "00017862\n"),
         (&many, "fd23f100\n"),
     ] {
-        let written = line_in_memory(rt.alloc(), bytes);
+        let written = digest_line_in_memory(rt.alloc(), bytes);
         assert!(rt;
             matches!(&written, Ok(text) if text.as_slice() == line.as_bytes()),
             "{line}"
@@ -105,11 +105,11 @@ impl Read for Interrupted {
 }
 
 #[test]
-fn a_reader_fails_in_mid_stream(rt: HostRuntime) {
+fn read_error_in_mid_stream_is_returned(rt: HostRuntime) {
     let mut source = IoSource::new(Interrupted { reads: 0 });
     let mut room = [0u8; 9];
     let mut sink = SliceSink::new(&mut room, 9, None);
-    let answer = hash_stream(&mut source, &mut sink, fresh());
+    let answer = hash_stream(&mut source, &mut sink, new_polynomial_hash());
     let (failed, written) = (source.failed(), sink.written());
     let reads = source.into_inner().reads;
     assert!(rt; answer == Err(StreamFault::Read));
@@ -140,7 +140,7 @@ impl Write for Filling {
 }
 
 #[test]
-fn a_writer_fills_up(rt: HostRuntime) {
+fn full_sink_is_a_write_error(rt: HostRuntime) {
     let mut sink = IoSink::new(Filling { writes: 0 });
     let whole = write_whole(&mut sink, b"ab");
     let nothing = sink.write(b"");
@@ -156,10 +156,10 @@ fn a_writer_fills_up(rt: HostRuntime) {
 }
 
 #[test]
-fn a_writer_fills_up_in_mid_stream(rt: HostRuntime) {
+fn full_sink_in_mid_stream_is_an_error(rt: HostRuntime) {
     let mut sink = IoSink::new(Filling { writes: 0 });
     let mut source = SliceSource::new(b"abc", 4, None);
-    let answer = hash_stream(&mut source, &mut sink, fresh());
+    let answer = hash_stream(&mut source, &mut sink, new_polynomial_hash());
     let failed = sink.failed();
     let writes = sink.into_inner().writes;
     assert!(rt; answer == Err(StreamFault::Write));
@@ -169,7 +169,7 @@ fn a_writer_fills_up_in_mid_stream(rt: HostRuntime) {
 
 // What one write of `abc` to a sink that fails once returns, whether the sink has then failed,
 // and how many writes come later.
-fn write_once(by_error: bool) -> (Result<usize, DeviceError>, bool, usize) {
+fn one_write_to_failing_sink(by_error: bool) -> (Result<usize, DeviceError>, bool, usize) {
     let mut sink = IoSink::new(FailsOnce::new(0, by_error));
     let answer = sink.write(b"abc");
     let failed = sink.failed();
@@ -177,34 +177,34 @@ fn write_once(by_error: bool) -> (Result<usize, DeviceError>, bool, usize) {
 }
 
 // What it returns for whole writes, and how many writes come later.
-fn write_whole_once(by_error: bool) -> (Result<(), DeviceError>, usize) {
+fn whole_write_to_failing_sink(by_error: bool) -> (Result<(), DeviceError>, usize) {
     let mut sink = IoSink::new(FailsOnce::new(0, by_error));
     let answer = write_whole(&mut sink, b"abc");
     (answer, sink.into_inner().later)
 }
 
 // What a stream to it returns, and how many writes come later.
-fn stream_once(by_error: bool) -> (Result<u64, StreamFault>, usize) {
+fn stream_to_failing_sink(by_error: bool) -> (Result<u64, StreamFault>, usize) {
     let mut sink = IoSink::new(FailsOnce::new(0, by_error));
     let mut source = SliceSource::new(b"abc", 4, None);
-    let answer = hash_stream(&mut source, &mut sink, fresh());
+    let answer = hash_stream(&mut source, &mut sink, new_polynomial_hash());
     (answer, sink.into_inner().later)
 }
 
 #[test]
-fn a_writer_that_fails_is_not_tried_again(rt: HostRuntime) {
+fn failed_sink_is_not_written_again(rt: HostRuntime) {
     for (by_error, wanted) in [(true, Err(DeviceError)), (false, Ok(0))] {
-        let (answer, failed, later) = write_once(by_error);
+        let (answer, failed, later) = one_write_to_failing_sink(by_error);
         assert!(rt;
             answer == wanted && failed && later == 0,
             "by an error: {by_error}"
         );
-        let (answer, later) = write_whole_once(by_error);
+        let (answer, later) = whole_write_to_failing_sink(by_error);
         assert!(rt;
             answer == Err(DeviceError) && later == 0,
             "by an error: {by_error}"
         );
-        let (answer, later) = stream_once(by_error);
+        let (answer, later) = stream_to_failing_sink(by_error);
         assert!(rt;
             answer == Err(StreamFault::Write) && later == 0,
             "by an error: {by_error}"
@@ -213,7 +213,7 @@ fn a_writer_that_fails_is_not_tried_again(rt: HostRuntime) {
 }
 
 #[test]
-fn errors_of_a_source_come_after_its_bytes(rt: HostRuntime) {
+fn source_error_comes_after_its_bytes(rt: HostRuntime) {
     let mut piece = [0u8; 2];
     let mut source = SliceSource::new(b"abc", 3, Some(3));
     let first = (source.read(&mut piece), piece);
@@ -231,7 +231,7 @@ fn errors_of_a_source_come_after_its_bytes(rt: HostRuntime) {
 }
 
 #[test]
-fn a_source_that_ends_before_its_error(rt: HostRuntime) {
+fn source_may_end_before_its_error(rt: HostRuntime) {
     let mut piece = [0u8; 2];
     let mut source = SliceSource::new(b"", 3, Some(1));
     let first = source.read(&mut piece);
@@ -243,7 +243,7 @@ fn a_source_that_ends_before_its_error(rt: HostRuntime) {
 }
 
 #[test]
-fn errors_of_a_sink_come_after_its_bytes(rt: HostRuntime) {
+fn sink_error_comes_after_its_bytes(rt: HostRuntime) {
     let mut room = [0u8; 4];
     let mut sink = SliceSink::new(&mut room, 2, Some(3));
     let first = sink.write(b"abc");

@@ -13,7 +13,13 @@ use blake2::digest::{FixedOutput, LastNode, Update};
 use blake2::transcripts::{Step, Tree};
 
 // The digest of a node of a tree, without salt and persona.
-fn node(leaf_length: u32, node_offset: u64, node_depth: u8, last: bool, bytes: &[u8]) -> [u8; 64]
+fn digest_of_node(
+    leaf_length: u32,
+    node_offset: u64,
+    node_depth: u8,
+    last: bool,
+    bytes: &[u8],
+) -> [u8; 64]
     requires { length bytes.now < 2 ^ 58 }
 {
     let tree = Tree {
@@ -33,7 +39,7 @@ fn node(leaf_length: u32, node_offset: u64, node_depth: u8, last: bool, bytes: &
 // The step of a root of no bytes over the digests of one leaf or two, without salt and persona. Its
 // chaining words are IV xored with the parameter words (the BLAKE2 document, 2.8): the first word
 // has the length of a leaf, the third node depth 1 and inner length 64.
-fn root_step(first_word: u64, digests: &[u8]) -> Step<u64, 128> {
+fn step_of_root_over_digests(first_word: u64, digests: &[u8]) -> Step<u64, 128> {
     let mut block = [0; 128];
     for (byte, digest_byte) in block.iter_mut().zip(digests) {
         *byte = *digest_byte;

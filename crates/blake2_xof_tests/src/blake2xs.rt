@@ -1,6 +1,6 @@
 //! BLAKE2Xs.
 
-use crate::checks::{message, read, reads};
+use crate::checks::{has_hex_digits, message, read};
 use blake2_xof::blake2xs::State;
 use blake2_xof::laws::derivations_differ_blake2xs;
 use blake2_xof::reader::blake2xs::{Reader, UNKNOWN_LENGTH};
@@ -22,30 +22,30 @@ fn update_or_abort(rt: &impl Abort, state: &mut State, message: &[u8]) {
 }
 
 // Reads the next bytes of the output.
-fn squeeze(rt: &impl Abort, state: &mut State, out: &mut [u8]) {
+fn read_next_bytes(rt: &impl Abort, state: &mut State, out: &mut [u8]) {
     assert!(rt; state.is_ready() && out.len() as u64 <= state.reader.left());
     state.squeeze(out);
 }
 
 // Reads the output in pieces of this length, at least 1, and checks it.
-fn check(rt: &impl Abort, state: &mut State, piece: usize, digits: &str) {
+fn check_output_in_pieces(rt: &impl Abort, state: &mut State, piece: usize, digits: &str) {
     let mut out = [0; 512];
     let size = digits.len() / 2;
     assert!(rt; piece >= 1 && size <= 512, "{digits}");
     for part in out[..size].chunks_mut(piece) {
-        squeeze(rt, state, part);
+        read_next_bytes(rt, state, part);
     }
-    assert!(rt; reads(&out[..size], digits), "{digits}");
+    assert!(rt; has_hex_digits(&out[..size], digits), "{digits}");
 }
 
 // Goes back to the start.
-fn reset(rt: &impl Abort, state: &mut State) {
+fn reset_or_abort(rt: &impl Abort, state: &mut State) {
     assert!(rt; state.is_ready() && !state.is_absorbing());
     state.reset();
 }
 
 #[test]
-fn outputs(rt: HostRuntime) {
+fn outputs_are_known(rt: HostRuntime) {
     let message = message();
     for row in ROWS.lines() {
         let (xof_length, length, key_length, digits) = read(&rt, row);
@@ -54,67 +54,73 @@ fn outputs(rt: HostRuntime) {
         let mut state = made.expect(&rt, row);
         for piece in [1usize, 31, 32, 256, 512] {
             update_or_abort(&rt, &mut state, &message[..length]);
-            check(&rt, &mut state, piece, digits);
-            reset(&rt, &mut state);
+            check_output_in_pieces(&rt, &mut state, piece, digits);
+            reset_or_abort(&rt, &mut state);
         }
     }
 }
 
 // The first bytes are read by the state, and the others by its reader.
 #[test]
-fn salt_and_persona(rt: HostRuntime) {
+fn outputs_with_salt_and_persona(rt: HostRuntime) {
     let made = State::init(70, &[], &[1, 2, 3, 4, 5, 6, 7, 8], b"personal");
     let mut state = made.expect(&rt, "a state");
     update_or_abort(&rt, &mut state, b"abc");
     let (mut first, mut rest) = ([0; 32], [0; 38]);
-    squeeze(&rt, &mut state, &mut first);
+    read_next_bytes(&rt, &mut state, &mut first);
     assert!(&rt; state.reader.is_ready() && state.reader.left() == 38);
     state.reader.read(&mut rest);
     let wanted = "14af202ddbed5b0431b97e81460c6598953fa908658f60c0087d18e43c2f558c";
-    assert!(&rt; reads(&first, wanted), "{wanted}");
+    assert!(&rt; has_hex_digits(&first, wanted), "{wanted}");
     let wanted = "b65edbc0eb7e68dac04080f0b241d8296d6a76fbe36cd37e94829082bc4556a3\
         09cb5238f9a5";
-    assert!(&rt; reads(&rest, wanted), "{wanted}");
+    assert!(&rt; has_hex_digits(&rest, wanted), "{wanted}");
 }
 
 #[test]
-fn ends_of_outputs(rt: HostRuntime) {
+fn no_bytes_after_the_end_of_output(rt: HostRuntime) {
     let known = State::init(3, &[], &[], &[]);
     let unknown = State::init(UNKNOWN_LENGTH, &[], &[], &[]);
     for (made, length) in [(known, 3), (unknown, 32 << 32)] {
         let mut state = made.expect(&rt, "a state");
         assert!(&rt; state.reader.is_ready() && state.reader.left() == length);
         state.reader.position = length - 2;
-        squeeze(&rt, &mut state, &mut [0; 2]);
+        read_next_bytes(&rt, &mut state, &mut [0; 2]);
         assert!(&rt; state.reader.is_ready() && state.reader.left() == 0);
-        squeeze(&rt, &mut state, &mut []);
+        read_next_bytes(&rt, &mut state, &mut []);
         state.reader.position = length + 1;
         assert!(&rt; !state.is_ready() && !state.reader.is_ready());
     }
 }
 
 // Whether an init accepts the parameters, as `accepts` says.
-fn is_made(rt: &impl Abort, xof_length: u64, key: &[u8], salt: &[u8], persona: &[u8]) -> bool {
+fn is_init_accepted(
+    rt: &impl Abort,
+    xof_length: u64,
+    key: &[u8],
+    salt: &[u8],
+    persona: &[u8],
+) -> bool {
     let is_made = State::init(xof_length, key, salt, persona).is_ok();
     assert!(rt; State::accepts(xof_length, key, salt, persona) == is_made);
     is_made
 }
 
 #[test]
-fn refused_lengths(rt: HostRuntime) {
+fn wrong_lengths_are_refused(rt: HostRuntime) {
     let long = message();
     let (key, salt) = (&long[..32], &long[..8]);
-    assert!(&rt; is_made(&rt, 1, key, salt, salt));
-    assert!(&rt; is_made(&rt, UNKNOWN_LENGTH, key, salt, salt));
-    assert!(&rt; !is_made(&rt, 0, &[], &[], &[]));
-    assert!(&rt; !is_made(&rt, UNKNOWN_LENGTH + 1, &[], &[], &[]));
-    assert!(&rt; !is_made(&rt, 1, &long[..33], &[], &[]));
-    assert!(&rt; !is_made(&rt, 1, &[], &long[..9], &[]));
-    assert!(&rt; !is_made(&rt, 1, &[], &[], &long[..9]));
+    assert!(&rt; is_init_accepted(&rt, 1, key, salt, salt));
+    assert!(&rt; is_init_accepted(&rt, UNKNOWN_LENGTH, key, salt, salt));
+    assert!(&rt; !is_init_accepted(&rt, 0, &[], &[], &[]));
+    assert!(&rt; !is_init_accepted(&rt, UNKNOWN_LENGTH + 1, &[], &[], &[]));
+    assert!(&rt; !is_init_accepted(&rt, 1, &long[..33], &[], &[]));
+    assert!(&rt; !is_init_accepted(&rt, 1, &[], &long[..9], &[]));
+    assert!(&rt; !is_init_accepted(&rt, 1, &[], &[], &long[..9]));
 }
 
 #[test]
-fn wiped_states(rt: HostRuntime) {
+fn wiped_state_is_refused(rt: HostRuntime) {
     let mut state = State::init(1, b"key", &[], &[]).expect(&rt, "a state");
     assert!(&rt; state.is_ready() && state.counted() == 64);
     state.wipe();

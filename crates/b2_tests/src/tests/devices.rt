@@ -1,8 +1,8 @@
 //! Devices that move few bytes a call, and that fail at each call.
 
-use super::input_lengths::script_of;
+use super::input_lengths::script_of_length;
 use super::leaves::FIRST;
-use super::{check_line, run_over, words_of};
+use super::{check_status_and_only_line, run_with_failing_source, split_words};
 use b2_commands::run;
 use blake2::streams::{SliceSink, SliceSource};
 use std::alloc::{AllocError, Global};
@@ -18,7 +18,7 @@ struct Command<'a> {
 
 // Runs a command between a source and a sink that move at most `most` bytes a call. Returns its
 // status, and how many bytes the sink accepted into the room before it failed.
-fn run_between(
+fn run_between_small_devices(
     alloc: Global,
     command: &Command<'_>,
     room: &mut [u8],
@@ -33,7 +33,7 @@ fn run_between(
 }
 
 // Checks that a command between devices that move few bytes a call prints the whole output.
-fn check_little(
+fn check_output_by_small_devices(
     rt: &(impl Abort + AllocGlobal),
     command: &Command<'_>,
     room: &mut [u8],
@@ -41,7 +41,7 @@ fn check_little(
     whole: &[u8],
 ) {
     for most in [1, 2, 3, 64] {
-        let (found, written) = run_between(rt.alloc(), command, room, most, None);
+        let (found, written) = run_between_small_devices(rt.alloc(), command, room, most, None);
         assert!(rt;
             found == status && room.get(..written) == Some(whole),
             "b2 {}: {most} bytes a call",
@@ -52,14 +52,14 @@ fn check_little(
 
 // Returns whether a run ended with status 1, and the sink accepted exactly the first `length`
 // bytes of the whole output into the room.
-fn is_cut(run: (u8, usize), room: &[u8], whole: &[u8], length: usize) -> bool {
+fn is_output_cut_at(run: (u8, usize), room: &[u8], whole: &[u8], length: usize) -> bool {
     let (status, written) = run;
     status == 1 && room.get(..written) == whole.get(..length)
 }
 
 // Returns whether a command at a sink that has room for `length` bytes, fewer than the whole
 // output, prints exactly those, with status 1.
-fn fills(
+fn prints_what_sink_has_room_for(
     alloc: Global,
     command: &Command<'_>,
     room: &mut [u8],
@@ -68,8 +68,8 @@ fn fills(
 ) -> bool {
     match room.get_mut(..length) {
         Some(few) => {
-            let run = run_between(alloc, command, few, 4096, None);
-            is_cut(run, few, whole, length)
+            let run = run_between_small_devices(alloc, command, few, 4096, None);
+            is_output_cut_at(run, few, whole, length)
         }
         None => false,
     }
@@ -77,7 +77,7 @@ fn fills(
 
 // Checks a command at a sink that fails after each number of bytes below the whole output's, and
 // at one that has no room for more. It prints exactly those bytes, with status 1.
-fn check_sinks(
+fn check_failing_and_full_sinks(
     rt: &(impl Abort + AllocGlobal),
     command: &Command<'_>,
     room: &mut [u8],
@@ -85,97 +85,113 @@ fn check_sinks(
 ) {
     let text = command.text;
     for length in 0..whole.len() {
-        let run = run_between(rt.alloc(), command, room, 4096, Some(length));
+        let run = run_between_small_devices(rt.alloc(), command, room, 4096, Some(length));
         assert!(rt;
-            is_cut(run, room, whole, length),
+            is_output_cut_at(run, room, whole, length),
             "b2 {text}: fails after {length}"
         );
-        let is_full = fills(rt.alloc(), command, room, whole, length);
+        let is_full = prints_what_sink_has_room_for(rt.alloc(), command, room, whole, length);
         assert!(rt; is_full, "b2 {text}: room for {length}");
     }
 }
 
 // Checks that a command over a source that fails after `fail_at` bytes prints that a read failed.
-fn check_source(rt: &(impl Abort + AllocGlobal), words: &str, input: &[u8], fail_at: usize) {
-    check_line(rt, words, input, Some(fail_at), 1, "b2: read failed");
+fn check_failing_source_is_reported(
+    rt: &(impl Abort + AllocGlobal),
+    words: &str,
+    input: &[u8],
+    fail_at: usize,
+) {
+    check_status_and_only_line(rt, words, input, Some(fail_at), 1, "b2: read failed");
 }
 
 // Returns a command's arguments, its status, the whole output, and room for that.
-fn whole_run(
+fn run_to_whole_output(
     alloc: Global,
     text: &str,
     input: &[u8],
 ) -> Result<(Vec<String>, u8, Vec<u8>, Vec<u8>), AllocError> {
-    let words = words_of(alloc, text)?;
-    let (status, whole) = run_over(alloc, text, input, None)?;
+    let words = split_words(alloc, text)?;
+    let (status, whole) = run_with_failing_source(alloc, text, input, None)?;
     let room = Vec::from_slice(alloc, whole.as_slice())?;
     Ok((words, status, whole, room))
 }
 
 // Checks a command between devices that move few bytes a call, and at outputs that fail.
-fn check_outputs(rt: &(impl Abort + AllocGlobal), text: &str, input: &[u8]) {
-    let (words, status, whole, mut room) = whole_run(rt.alloc(), text, input).expect(rt, text);
+fn check_command_at_failing_outputs(rt: &(impl Abort + AllocGlobal), text: &str, input: &[u8]) {
+    let (words, status, whole, mut room) = run_to_whole_output(rt.alloc(), text, input).expect(
+        rt, text,
+    );
     let command = Command {
         text,
         words: words.as_slice(),
         input,
     };
-    check_little(rt, &command, room.as_mut_slice(), status, whole.as_slice());
-    check_sinks(rt, &command, room.as_mut_slice(), whole.as_slice());
+    check_output_by_small_devices(rt, &command, room.as_mut_slice(), status, whole.as_slice());
+    check_failing_and_full_sinks(rt, &command, room.as_mut_slice(), whole.as_slice());
 }
 
 // Checks the same for a command that reads its input. Checks also that it prints that a read
 // failed if the source fails after each number of bytes, from 0 to the whole input's.
-fn check_devices(rt: &(impl Abort + AllocGlobal), text: &str, input: &[u8]) {
-    check_outputs(rt, text, input);
+fn check_command_between_failing_devices(
+    rt: &(impl Abort + AllocGlobal),
+    text: &str,
+    input: &[u8],
+) {
+    check_command_at_failing_outputs(rt, text, input);
     for fail_at in 0..=input.len() {
-        check_source(rt, text, input, fail_at);
+        check_failing_source_is_reported(rt, text, input, fail_at);
     }
 }
 
 #[test]
-fn devices_give_little_or_fail(rt: HostRuntime) {
-    check_devices(&rt, "sum b512", &[b'a'; 129]);
-    check_devices(&rt, "sum s128 key=01", b"abc");
-    check_devices(&rt, "steps b512", &[b'a'; 129]);
-    check_devices(&rt, "steps s128 key=01", b"abc");
-    check_devices(&rt, "tree b512 1", &[b'a'; 129]);
-    check_devices(&rt, "tree b128 4", b"abcde");
-    check_devices(&rt, "tree b256 4294967295", b"abc");
-    check_devices(&rt, "leaves 64 1 last", &[b'a'; 129]);
-    check_devices(&rt, "leaves 4 0 more", b"abcdefgh");
-    check_devices(&rt, "leaves 4 0 more", b"abcde");
+fn commands_at_small_or_failing_devices(rt: HostRuntime) {
+    check_command_between_failing_devices(&rt, "sum b512", &[b'a'; 129]);
+    check_command_between_failing_devices(&rt, "sum s128 key=01", b"abc");
+    check_command_between_failing_devices(&rt, "steps b512", &[b'a'; 129]);
+    check_command_between_failing_devices(&rt, "steps s128 key=01", b"abc");
+    check_command_between_failing_devices(&rt, "tree b512 1", &[b'a'; 129]);
+    check_command_between_failing_devices(&rt, "tree b128 4", b"abcde");
+    check_command_between_failing_devices(&rt, "tree b256 4294967295", b"abc");
+    check_command_between_failing_devices(&rt, "leaves 64 1 last", &[b'a'; 129]);
+    check_command_between_failing_devices(&rt, "leaves 4 0 more", b"abcdefgh");
+    check_command_between_failing_devices(&rt, "leaves 4 0 more", b"abcde");
     let lines = b"u 0 6162\nc 0\nu 0 63\nd 0\nu 1 63\nf 1\nf 0\n";
-    check_devices(&rt, "script b512", lines);
-    check_devices(&rt, "root b512 4", FIRST.as_bytes());
-    check_devices(&rt, "script s128 key=01", b"d 0\nu 0 61\nf 0");
-    check_devices(&rt, "script s128", b"f 0\nf 0\n");
-    check_devices(&rt, "script s128", b"f 0\nx 0\n");
+    check_command_between_failing_devices(&rt, "script b512", lines);
+    check_command_between_failing_devices(&rt, "root b512 4", FIRST.as_bytes());
+    check_command_between_failing_devices(&rt, "script s128 key=01", b"d 0\nu 0 61\nf 0");
+    check_command_between_failing_devices(&rt, "script s128", b"f 0\nf 0\n");
+    check_command_between_failing_devices(&rt, "script s128", b"f 0\nx 0\n");
 }
 
 #[test]
-fn outputs_take_little_or_fail(rt: HostRuntime) {
-    check_outputs(&rt, "sum b999", b"");
-    check_outputs(&rt, "tree b256 4 key=", b"abc");
-    check_outputs(&rt, "root b256 4", b"abc");
-    check_outputs(&rt, "witness b0 61 62", b"");
-    check_outputs(&rt, "witness s0 - 00", b"");
-    check_outputs(&rt, "witness b512 61 62", b"");
+fn commands_at_small_or_failing_outputs(rt: HostRuntime) {
+    check_command_at_failing_outputs(&rt, "sum b999", b"");
+    check_command_at_failing_outputs(&rt, "tree b256 4 key=", b"abc");
+    check_command_at_failing_outputs(&rt, "root b256 4", b"abc");
+    check_command_at_failing_outputs(&rt, "witness b0 61 62", b"");
+    check_command_at_failing_outputs(&rt, "witness s0 - 00", b"");
+    check_command_at_failing_outputs(&rt, "witness b512 61 62", b"");
 }
 
 // Checks that a command prints that a read failed, if its source fails at one of these ends of
 // pieces, or a byte before or after it.
-fn check_ends(rt: &(impl Abort + AllocGlobal), words: &str, input: &[u8], ends: &[usize]) {
+fn check_read_errors_around_pieces(
+    rt: &(impl Abort + AllocGlobal),
+    words: &str,
+    input: &[u8],
+    ends: &[usize],
+) {
     for end in ends {
-        check_source(rt, words, input, end.saturating_sub(1));
-        check_source(rt, words, input, *end);
-        check_source(rt, words, input, end.saturating_add(1));
+        check_failing_source_is_reported(rt, words, input, end.saturating_sub(1));
+        check_failing_source_is_reported(rt, words, input, *end);
+        check_failing_source_is_reported(rt, words, input, end.saturating_add(1));
     }
 }
 
 // The source returns at most 4,096 bytes a read.
 #[test]
-fn reads_fail_behind_whole_pieces(rt: HostRuntime) {
+fn read_errors_around_pieces_are_reported(rt: HostRuntime) {
     let input = [b'a'; 70_000];
     for words in [
         "sum b512",
@@ -186,18 +202,18 @@ fn reads_fail_behind_whole_pieces(rt: HostRuntime) {
         "leaves 1 0 more",
         "root b128 1",
     ] {
-        check_ends(&rt, words, &input, &[4096, 8192, 65_536]);
+        check_read_errors_around_pieces(&rt, words, &input, &[4096, 8192, 65_536]);
     }
     // A piece of a tree's input has 65,537 bytes if a leaf has one byte, and 69,632 if it has
     // 4,096.
-    check_ends(&rt, "tree b512 1", &input, &[4096, 65_537]);
-    check_ends(&rt, "tree b256 4096", &input, &[4096, 69_632]);
+    check_read_errors_around_pieces(&rt, "tree b512 1", &input, &[4096, 65_537]);
+    check_read_errors_around_pieces(&rt, "tree b256 4096", &input, &[4096, 69_632]);
 }
 
 #[test]
-fn reads_fail_behind_whole_pieces_of_scripts(rt: HostRuntime) {
-    let script = script_of(rt.alloc(), 12_289).expect(&rt, "memory for the test");
+fn read_errors_in_scripts_are_reported(rt: HostRuntime) {
+    let script = script_of_length(rt.alloc(), 12_289).expect(&rt, "memory for the test");
     for words in ["script b512", "script s256 key=01"] {
-        check_ends(&rt, words, script.as_slice(), &[4096, 8192, 12_288]);
+        check_read_errors_around_pieces(&rt, words, script.as_slice(), &[4096, 8192, 12_288]);
     }
 }

@@ -1,6 +1,6 @@
 //! Outputs that fail once, and would then accept everything: nothing more is written to them.
 
-use super::words_of;
+use super::split_words;
 use b2_commands::{Fault, run};
 use blake2::streams::{IoSink, SliceSource};
 use blake2_test_support::devices::FailsOnce;
@@ -8,8 +8,8 @@ use std::alloc::Global;
 
 // Returns whether the command, over an output that fails once after `before` bytes, returns
 // status 1 and writes no more.
-fn stops_for_good(alloc: Global, text: &str, input: &[u8], before: usize) -> bool {
-    let Ok(words) = words_of(alloc, text) else {
+fn ends_at_first_failed_write(alloc: Global, text: &str, input: &[u8], before: usize) -> bool {
+    let Ok(words) = split_words(alloc, text) else {
         return false;
     };
     for by_error in [true, false] {
@@ -38,24 +38,24 @@ const STOPS: &str = "\
 0|add|;13|sum b512 key=1|;0|script b512|f 0\nf 0\n;15|steps b512 key=|";
 
 // Returns whether a row's command stops for good.
-fn row_stops(alloc: Global, row: &str) -> bool {
+fn row_ends_at_first_failed_write(alloc: Global, row: &str) -> bool {
     let (before, rest) = row.split_once('|').unwrap_or((row, ""));
     let (words, input) = rest.split_once('|').unwrap_or((rest, ""));
     match before.parse() {
-        Ok(before) => stops_for_good(alloc, words, input.as_bytes(), before),
+        Ok(before) => ends_at_first_failed_write(alloc, words, input.as_bytes(), before),
         Err(_) => false,
     }
 }
 
 #[test]
-fn stop_at_their_first_failure(rt: HostRuntime) {
+fn commands_end_at_first_failed_write(rt: HostRuntime) {
     for row in STOPS.split(';') {
-        assert!(rt; row_stops(rt.alloc(), row), "{row}");
+        assert!(rt; row_ends_at_first_failed_write(rt.alloc(), row), "{row}");
     }
 }
 
 #[test]
-fn take_no_second_line_of_a_fault(rt: HostRuntime) {
+fn scripts_report_only_their_first_fault(rt: HostRuntime) {
     for before in [0usize, 4, 15] {
         for by_error in [true, false] {
             let mut sink = IoSink::new(FailsOnce::new(before, by_error));

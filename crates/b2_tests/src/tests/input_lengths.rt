@@ -2,7 +2,7 @@
 //! absent, of one byte and of the maximum length. The digests come from
 //! `tests/expected_values.py`, under `texts` and `options`.
 
-use super::{add_output, is_digest_of};
+use super::{append_output, is_digest_of_outputs};
 use std::alloc::{AllocError, Global};
 use std::process::Abort;
 
@@ -37,7 +37,7 @@ s256|639d476061f4031f056ad902bc1846b851c087c25e29757f5e43d57b1b163be2|\
 
 // Returns a script of `length` bytes, at least 10. It updates one slot with zeros, and prints
 // their digest.
-pub(super) fn script_of(alloc: Global, length: usize) -> Result<Vec<u8>, AllocError> {
+pub(super) fn script_of_length(alloc: Global, length: usize) -> Result<Vec<u8>, AllocError> {
     let mut script = Vec::from_slice(alloc, b"u 0 ")?;
     for _ in 4..length / 2 {
         script.extend_from_slice(b"00")?;
@@ -50,44 +50,47 @@ pub(super) fn script_of(alloc: Global, length: usize) -> Result<Vec<u8>, AllocEr
 }
 
 // Returns an input of `length` bytes for a command: a script, of at least 10 bytes, or letters a.
-fn input_of(alloc: Global, words: &str, length: usize) -> Result<Vec<u8>, AllocError> {
+fn input_of_length(alloc: Global, words: &str, length: usize) -> Result<Vec<u8>, AllocError> {
     if words.starts_with("script") {
-        script_of(alloc, length)
+        script_of_length(alloc, length)
     } else {
         vec![in alloc; b'a'; length]
     }
 }
 
 // Runs a command over an input of `length` bytes, and appends what it prints.
-fn add_output_over(
+fn append_output_over_length(
     rt: &(impl Abort + AllocGlobal),
     outputs: &mut Vec<u8>,
     words: &str,
     length: usize,
 ) {
-    let input = input_of(rt.alloc(), words, length).expect(rt, words);
+    let input = input_of_length(rt.alloc(), words, length).expect(rt, words);
     assert!(rt; input.len() == length, "b2 {words}: {length} bytes");
-    add_output(rt, outputs, &[words], input.as_slice());
+    append_output(rt, outputs, &[words], input.as_slice());
 }
 
 #[test]
-fn takes_texts_about_the_ends_of_pieces(rt: HostRuntime) {
+fn inputs_around_piece_ends_have_digests(rt: HostRuntime) {
     for row in TEXTS.lines() {
         let (words, wanted) = row.split_once('|').unwrap_or((row, ""));
         let mut outputs = Vec::new(rt.alloc());
         for i in 0..11 {
-            add_output_over(&rt, &mut outputs, words, 4090 + i);
+            append_output_over_length(&rt, &mut outputs, words, 4090 + i);
         }
         for i in 0..11 {
-            add_output_over(&rt, &mut outputs, words, 8186 + i);
+            append_output_over_length(&rt, &mut outputs, words, 8186 + i);
         }
-        assert!(rt; is_digest_of(outputs.as_slice(), wanted), "b2 {words}");
+        assert!(rt;
+            is_digest_of_outputs(outputs.as_slice(), wanted),
+            "b2 {words}"
+        );
     }
 }
 
 // Returns the arguments NAME=HEX, each after a space, for a key, a salt and a persona of these
 // lengths, up to 64 bytes each. Those of no bytes are absent. The bytes are 0, 1, 2 and so on.
-fn options_of(alloc: Global, lengths: (usize, usize, usize)) -> Result<String, AllocError> {
+fn options_of_lengths(alloc: Global, lengths: (usize, usize, usize)) -> Result<String, AllocError> {
     let digits = "000102030405060708090a0b0c0d0e0f101112131415161718191a1b1c1d1e1f\
                   202122232425262728292a2b2c2d2e2f303132333435363738393a3b3c3d3e3f";
     let (key, salt, persona) = lengths;
@@ -103,23 +106,23 @@ fn options_of(alloc: Global, lengths: (usize, usize, usize)) -> Result<String, A
 
 // Appends what `sum`, `script` and `steps` print over `abc` under a KIND and options of these
 // lengths.
-fn add_outputs(
+fn append_outputs_with_options(
     rt: &(impl Abort + AllocGlobal),
     sums: &mut Vec<u8>,
     transcripts: &mut Vec<u8>,
     kind: &str,
     lengths: (usize, usize, usize),
 ) {
-    let options = options_of(rt.alloc(), lengths).expect(rt, kind);
+    let options = options_of_lengths(rt.alloc(), lengths).expect(rt, kind);
     let options = options.as_str();
-    add_output(rt, sums, &["sum ", kind, options], b"abc");
-    add_output(rt, sums, &["script ", kind, options], b"u 0 616263\nf 0\n");
-    add_output(rt, transcripts, &["steps ", kind, options], b"abc");
+    append_output(rt, sums, &["sum ", kind, options], b"abc");
+    append_output(rt, sums, &["script ", kind, options], b"u 0 616263\nf 0\n");
+    append_output(rt, transcripts, &["steps ", kind, options], b"abc");
 }
 
 // Checks a KIND whose longest key has `key` bytes, and whose longest salt and persona have `text`
 // bytes.
-fn check_lengths(
+fn check_outputs_of_each_option_length(
     rt: &(impl Abort + AllocGlobal),
     kind: &str,
     digests: &str,
@@ -131,25 +134,34 @@ fn check_lengths(
     for key in [0, 1, key] {
         for salt in [0, 1, text] {
             for persona in [0, 1, text] {
-                add_outputs(rt, &mut sums, &mut transcripts, kind, (key, salt, persona));
+                append_outputs_with_options(
+                    rt,
+                    &mut sums,
+                    &mut transcripts,
+                    kind,
+                    (key, salt, persona),
+                );
             }
         }
     }
-    assert!(rt; is_digest_of(sums.as_slice(), sum_digest), "b2 sum {kind}");
     assert!(rt;
-        is_digest_of(transcripts.as_slice(), steps_digest),
+        is_digest_of_outputs(sums.as_slice(), sum_digest),
+        "b2 sum {kind}"
+    );
+    assert!(rt;
+        is_digest_of_outputs(transcripts.as_slice(), steps_digest),
         "b2 steps {kind}"
     );
 }
 
 #[test]
-fn takes_each_choice_of_options(rt: HostRuntime) {
+fn each_choice_of_options_has_its_digests(rt: HostRuntime) {
     for row in OPTIONS.lines() {
         let (kind, digests) = row.split_once('|').unwrap_or((row, ""));
         if kind.starts_with("b") {
-            check_lengths(&rt, kind, digests, 64, 16);
+            check_outputs_of_each_option_length(&rt, kind, digests, 64, 16);
         } else {
-            check_lengths(&rt, kind, digests, 32, 8);
+            check_outputs_of_each_option_length(&rt, kind, digests, 32, 8);
         }
     }
 }

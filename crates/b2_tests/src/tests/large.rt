@@ -1,8 +1,8 @@
 //! Inputs of more than a MiB, and scripts of ten thousand lines. The lines and digests over the
 //! input come from `tests/expected_values.py`, under `large`.
 
-use super::script::check_wrong;
-use super::{check_command, is_digest_of, output_of, text_of};
+use super::script::check_script_is_refused;
+use super::{check_prints_only_line, is_digest_of_outputs, output_if_successful, text_of_parts};
 use std::alloc::{AllocError, Global};
 use std::process::Abort;
 
@@ -43,7 +43,7 @@ pub(super) fn large_input(alloc: Global) -> Result<Vec<u8>, AllocError> {
 }
 
 // Checks a KIND over the input and over a script that updates slot 0 with it.
-fn check_kind(
+fn check_kind_over_large_input(
     rt: &(impl Abort + AllocGlobal),
     kind: &str,
     digests: &str,
@@ -51,53 +51,61 @@ fn check_kind(
     script: &[u8],
 ) {
     let (digest, steps_digest) = digests.split_once('|').unwrap_or((digests, ""));
-    check_command(rt, "sum", kind, input, digest);
-    check_command(rt, "script", kind, script, digest);
-    let transcript = output_of(rt.alloc(), &["steps ", kind], input);
+    check_prints_only_line(rt, "sum", kind, input, digest);
+    check_prints_only_line(rt, "script", kind, script, digest);
+    let transcript = output_if_successful(rt.alloc(), &["steps ", kind], input);
     assert!(rt;
-        is_digest_of(transcript.as_slice(), steps_digest),
+        is_digest_of_outputs(transcript.as_slice(), steps_digest),
         "b2 steps {kind}"
     );
 }
 
 // Returns the input, its digits, and a script that updates slot 0 with it.
-fn large_texts(alloc: Global) -> Result<(Vec<u8>, String, String), AllocError> {
+fn large_input_digits_and_script(alloc: Global) -> Result<(Vec<u8>, String, String), AllocError> {
     let input = large_input(alloc)?;
     let digits = hex::encode(alloc, input.as_slice())?;
-    let script = text_of(alloc, &["u 0 ", digits.as_str(), "\nf 0\n"])?;
+    let script = text_of_parts(alloc, &["u 0 ", digits.as_str(), "\nf 0\n"])?;
     Ok((input, digits, script))
 }
 
 #[test]
-fn takes_a_large_input(rt: HostRuntime) {
-    let (input, digits, script) = large_texts(rt.alloc()).expect(&rt, "memory for the test");
+fn large_inputs_have_their_digests(rt: HostRuntime) {
+    let (input, digits, script) = large_input_digits_and_script(rt.alloc()).expect(
+        &rt,
+        "memory for the test",
+    );
     for row in DIGESTS.lines() {
         let (kind, digests) = row.split_once('|').unwrap_or((row, ""));
-        check_kind(&rt, kind, digests, input.as_slice(), script.as_bytes());
+        check_kind_over_large_input(&rt, kind, digests, input.as_slice(), script.as_bytes());
     }
     let digits = digits.as_str();
-    let none = output_of(rt.alloc(), &["witness b512 ", digits, " ", digits], b"");
+    let none = output_if_successful(rt.alloc(), &["witness b512 ", digits, " ", digits], b"");
     assert!(rt; none.as_slice() == b"none\n".as_slice(), "b2 witness b512");
 }
 
 #[test]
-fn takes_a_large_input_as_a_tree(rt: HostRuntime) {
+fn large_trees_have_their_roots(rt: HostRuntime) {
     let input = large_input(rt.alloc()).expect(&rt, "memory for the test");
     for row in ROOTS.lines() {
         let (leaf, root) = row.split_once('|').unwrap_or((row, ""));
-        check_command(&rt, "tree b256", leaf, input.as_slice(), root);
+        check_prints_only_line(&rt, "tree b256", leaf, input.as_slice(), root);
     }
 }
 
 #[test]
-fn takes_more_leaves_than_a_piece_has(rt: HostRuntime) {
+fn more_leaves_than_a_piece_have_their_root(rt: HostRuntime) {
     let input = large_input(rt.alloc()).expect(&rt, "memory for the test");
     let bytes = input.as_slice().get(..65_600).unwrap_or(b"");
-    check_command(&rt, "tree b256", "1", bytes, BYTES_ROOT);
+    check_prints_only_line(&rt, "tree b256", "1", bytes, BYTES_ROOT);
 }
 
 // Returns a script of ten thousand lines, of which the one at `place`, from 0, is `other`.
-fn script_with(alloc: Global, place: usize, line: &str, other: &str) -> Result<String, AllocError> {
+fn long_script_with_other_line(
+    alloc: Global,
+    place: usize,
+    line: &str,
+    other: &str,
+) -> Result<String, AllocError> {
     let mut script = String::new(alloc);
     for i in 0..10_000 {
         script.push_str(if i == place { other } else { line })?;
@@ -108,24 +116,24 @@ fn script_with(alloc: Global, place: usize, line: &str, other: &str) -> Result<S
 
 // Checks which line of such a script is refused. Bars are between the line, the other one and the
 // cause.
-fn check_other_line(rt: &(impl Abort + AllocGlobal), place: usize, lines: &str) {
+fn check_refused_line_of_long_script(rt: &(impl Abort + AllocGlobal), place: usize, lines: &str) {
     let (line, rest) = lines.split_once('|').unwrap_or((lines, ""));
     let (other, cause) = rest.split_once('|').unwrap_or((rest, ""));
-    let script = script_with(rt.alloc(), place, line, other).expect(rt, lines);
+    let script = long_script_with_other_line(rt.alloc(), place, line, other).expect(rt, lines);
     let fault = format!(in rt.alloc(); "b2: line {}: {cause}", place.saturating_add(1));
-    check_wrong(rt, script.as_bytes(), fault.expect(rt, lines).as_str());
+    check_script_is_refused(rt, script.as_bytes(), fault.expect(rt, lines).as_str());
 }
 
 #[test]
-fn names_a_line_of_ten_thousand(rt: HostRuntime) {
+fn refused_line_of_ten_thousand_is_named(rt: HostRuntime) {
     for place in [
         0, 1, 8, 9, 98, 99, 999, 1023, 1024, 4095, 4096, 5000, 8999, 9998, 9999,
     ] {
         // The line, the other line, and the cause.
-        check_other_line(&rt, place, "u 0 61|u 0 6|wrong line");
-        check_other_line(&rt, place, "d 0||wrong line");
-        check_other_line(&rt, place, "c 0|c 00|wrong line");
-        check_other_line(&rt, place, "u 0 6162|u 10001 61|no such slot");
-        check_other_line(&rt, place, "r 0|f 99999|no such slot");
+        check_refused_line_of_long_script(&rt, place, "u 0 61|u 0 6|wrong line");
+        check_refused_line_of_long_script(&rt, place, "d 0||wrong line");
+        check_refused_line_of_long_script(&rt, place, "c 0|c 00|wrong line");
+        check_refused_line_of_long_script(&rt, place, "u 0 6162|u 10001 61|no such slot");
+        check_refused_line_of_long_script(&rt, place, "r 0|f 99999|no such slot");
     }
 }

@@ -3,8 +3,8 @@
 
 use super::large::{ROOTS, large_input};
 use super::{
-    add_output, check_command, check_line, check_prints, check_rows, is_digest_of, output_of,
-    text_of,
+    append_output, check_prints_only_line, check_prints_only_text, check_rows_of_commands,
+    check_status_and_only_line, is_digest_of_outputs, output_if_successful, text_of_parts,
 };
 use std::process::Abort;
 
@@ -47,9 +47,9 @@ root b256 4 salt=73616c74|47E15A1AB6A4D0EA0932BB43E976DC986ACDADA1500296368D785F
 2789e7e623d9ea7c4784fe858b9695d88d36f88a7e21fc5bb07e22f273e3f891";
 
 #[test]
-fn prints_digests_and_roots(rt: HostRuntime) {
-    check_rows(&rt, LINES, None, 0);
-    check_prints(&rt, "leaves 4 0 last", b"abcde", &[FIRST, "\n", LAST, "\n"]);
+fn leaves_and_root_print_digests(rt: HostRuntime) {
+    check_rows_of_commands(&rt, LINES, None, 0);
+    check_prints_only_text(&rt, "leaves 4 0 last", b"abcde", &[FIRST, "\n", LAST, "\n"]);
 }
 
 // Inputs that are no part.
@@ -63,22 +63,27 @@ leaves 4 72057594037927936 last||b2: wrong length\n\
 leaves 4 999999999999999999 more|abcd|b2: wrong length";
 
 #[test]
-fn refuses_no_parts(rt: HostRuntime) {
-    check_rows(&rt, NO_PARTS, None, 2);
+fn leaves_need_all_their_arguments(rt: HostRuntime) {
+    check_rows_of_commands(&rt, NO_PARTS, None, 2);
 }
 
 // Checks what `root` prints over the text of these parts, and its status.
-fn check_root(rt: &(impl Abort + AllocGlobal), parts: &[&str], status: u8, line: &str) {
-    let text = text_of(rt.alloc(), parts).expect(rt, line);
-    check_line(rt, "root b512 4", text.as_bytes(), None, status, line);
+fn check_root_line_and_status(
+    rt: &(impl Abort + AllocGlobal),
+    parts: &[&str],
+    status: u8,
+    line: &str,
+) {
+    let text = text_of_parts(rt.alloc(), parts).expect(rt, line);
+    check_status_and_only_line(rt, "root b512 4", text.as_bytes(), None, status, line);
 }
 
 #[test]
-fn reads_lines(rt: HostRuntime) {
-    check_root(&rt, &[FIRST, "\n", LAST, "\n"], 0, ROOT);
-    check_root(&rt, &[FIRST, "\n", LAST], 0, ROOT);
+fn root_accepts_only_right_lines(rt: HostRuntime) {
+    check_root_line_and_status(&rt, &[FIRST, "\n", LAST, "\n"], 0, ROOT);
+    check_root_line_and_status(&rt, &[FIRST, "\n", LAST], 0, ROOT);
     for wrong in ["\n", " ", "0", "00", "\r\n", "g"] {
-        check_root(
+        check_root_line_and_status(
             &rt,
             &[FIRST, "\n", LAST, wrong, "\n"],
             2,
@@ -87,7 +92,7 @@ fn reads_lines(rt: HostRuntime) {
                 _ => "b2: line 2: wrong line",
             },
         );
-        check_root(
+        check_root_line_and_status(
             &rt,
             &[FIRST, wrong, "\n", LAST],
             2,
@@ -97,8 +102,8 @@ fn reads_lines(rt: HostRuntime) {
             },
         );
     }
-    check_root(&rt, &[""], 2, "b2: line 1: wrong line");
-    check_root(&rt, &[FIRST, "\n", "-"], 2, "b2: line 2: wrong line");
+    check_root_line_and_status(&rt, &[""], 2, "b2: line 1: wrong line");
+    check_root_line_and_status(&rt, &[FIRST, "\n", "-"], 2, "b2: line 2: wrong line");
 }
 
 // LEAF, FIRST and whether more follows, and the digest of what `leaves` prints over the large input
@@ -112,7 +117,7 @@ const PARTS: &str = "\
 
 // Parts of many leaves, of which some end the message.
 #[test]
-fn prints_leaves_of_a_large_part(rt: HostRuntime) {
+fn leaves_of_large_parts_are_printed(rt: HostRuntime) {
     let input = large_input(rt.alloc()).expect(&rt, "memory for the test");
     let part = input
         .as_slice()
@@ -121,18 +126,25 @@ fn prints_leaves_of_a_large_part(rt: HostRuntime) {
     for row in PARTS.lines() {
         let (words, wanted) = row.split_once('|').unwrap_or((row, ""));
         let mut lines = Vec::new(rt.alloc());
-        add_output(&rt, &mut lines, &["leaves ", words], part);
-        assert!(rt; is_digest_of(lines.as_slice(), wanted), "b2 leaves {words}");
+        append_output(&rt, &mut lines, &["leaves ", words], part);
+        assert!(rt;
+            is_digest_of_outputs(lines.as_slice(), wanted),
+            "b2 leaves {words}"
+        );
     }
 }
 
 // The root over the lines of all leaves is that of the tree.
 #[test]
-fn root_is_that_of_the_tree(rt: HostRuntime) {
+fn root_over_leaves_is_that_of_tree(rt: HostRuntime) {
     let input = large_input(rt.alloc()).expect(&rt, "memory for the test");
     for row in ROOTS.lines() {
         let (leaf, root) = row.split_once('|').unwrap_or((row, ""));
-        let lines = output_of(rt.alloc(), &["leaves ", leaf, " 0 last"], input.as_slice());
-        check_command(&rt, "root b256", leaf, lines.as_slice(), root);
+        let lines = output_if_successful(
+            rt.alloc(),
+            &["leaves ", leaf, " 0 last"],
+            input.as_slice(),
+        );
+        check_prints_only_line(&rt, "root b256", leaf, lines.as_slice(), root);
     }
 }

@@ -5,10 +5,10 @@ ghost use Rattle.std.specs.Prelude.{◌≤◌};
 use super::leaves::FIRST;
 use super::script::{ABC, NOTHING};
 use super::witness::B0;
-use super::{text_of, words_of};
+use super::{split_words, text_of_parts};
 use b2_commands::run;
 use blake2::streams::{SliceSink, SliceSource};
-use blake2_test_support::no_memory::{hoard, is_refused};
+use blake2_test_support::no_memory::{allocate_all_memory_but, are_small_allocations_refused};
 use std::alloc::{AllocError, Global};
 use std::process::Abort;
 
@@ -21,7 +21,7 @@ const TRIES: usize = 1024;
 
 // Runs a command under a hoard, with `left` bytes of memory left, at most 131,072. Returns its
 // status, and how many bytes it prints into the room.
-fn run_with_memory(
+fn run_with_bytes_left(
     alloc: Global,
     words: &[String],
     input: &[u8],
@@ -49,7 +49,7 @@ enum Answer {
     Other,
 }
 
-fn answer_with_memory(
+fn answer_with_bytes_left(
     alloc: Global,
     words: &[String],
     input: &[u8],
@@ -59,7 +59,7 @@ fn answer_with_memory(
     requires { left ≤ 131072 }
 {
     let mut room = [0u8; 1024];
-    let Ok((status, written)) = run_with_memory(alloc, words, input, &mut room, left) else {
+    let Ok((status, written)) = run_with_bytes_left(alloc, words, input, &mut room, left) else {
         return Answer::Other;
     };
     let printed = room.get(..written).unwrap_or(b"");
@@ -75,7 +75,7 @@ fn answer_with_memory(
 // Returns how many of the tries are refused, if all of these come before those that print the
 // expected output, and no try does anything else. Otherwise it returns `None`. Each try has
 // `step` bytes of memory more than the one before it, and the first has none.
-fn count_refused(
+fn count_refused_tries(
     alloc: Global,
     words: &[String],
     input: &[u8],
@@ -86,7 +86,7 @@ fn count_refused(
 {
     let mut refused = 0usize;
     for tries in 0..TRIES {
-        match answer_with_memory(alloc, words, input, wanted, step * tries) {
+        match answer_with_bytes_left(alloc, words, input, wanted, step * tries) {
             Answer::Refused if refused == tries => refused = tries + 1,
             Answer::Printed => {}
             _ => return None,
@@ -97,7 +97,7 @@ fn count_refused(
 
 // Does the same for a command, once its arguments are separated and the expected output is made:
 // the hoard comes after that.
-fn count_refused_of(
+fn count_refused_tries_of_command(
     alloc: Global,
     text: &str,
     input: &[u8],
@@ -106,10 +106,10 @@ fn count_refused_of(
 ) -> Result<Option<usize>, AllocError>
     requires { step ≤ 128 }
 {
-    let words = words_of(alloc, text)?;
-    let wanted = text_of(alloc, wanted)?;
-    let hoard = hoard(alloc, SPARE_BYTES)?;
-    let refused = count_refused(alloc, words.as_slice(), input, wanted.as_str(), step);
+    let words = split_words(alloc, text)?;
+    let wanted = text_of_parts(alloc, wanted)?;
+    let hoard = allocate_all_memory_but(alloc, SPARE_BYTES)?;
+    let refused = count_refused_tries(alloc, words.as_slice(), input, wanted.as_str(), step);
     drop(hoard);
     Ok(refused)
 }
@@ -117,7 +117,7 @@ fn count_refused_of(
 // Checks a command with no memory left, and with `step` bytes more at each further try. At the
 // first tries, at least one and not all, it reports that an allocation failed, with status 1. At
 // all others it prints the expected output, with status 0.
-fn check_refusals(
+fn check_reports_refused_allocations(
     rt: &(impl Abort + AllocGlobal),
     text: &str,
     input: &[u8],
@@ -126,7 +126,7 @@ fn check_refusals(
 )
     requires { step ≤ 128 }
 {
-    let refused = count_refused_of(rt.alloc(), text, input, wanted, step);
+    let refused = count_refused_tries_of_command(rt.alloc(), text, input, wanted, step);
     assert!(rt;
         matches!(refused, Ok(Some(refused)) if 0 < refused && refused < TRIES),
         "b2 {text}"
@@ -136,20 +136,20 @@ fn check_refusals(
 // Runs a command with no memory left. Returns its status, and how many bytes it prints into the
 // room. The result is `None` if an allocation of one byte or of 16 bytes succeeds before it or
 // after it.
-fn run_without_memory(
+fn run_with_no_memory_left(
     alloc: Global,
     text: &str,
     input: &[u8],
     room: &mut [u8],
 ) -> Result<Option<(u8, usize)>, AllocError> {
-    let words = words_of(alloc, text)?;
-    let hoard = hoard(alloc, SPARE_BYTES)?;
+    let words = split_words(alloc, text)?;
+    let hoard = allocate_all_memory_but(alloc, SPARE_BYTES)?;
     let plug: Vec<u8> = Vec::with_capacity(alloc, SPARE_BYTES)?;
-    let refused_before = is_refused(alloc);
+    let refused_before = are_small_allocations_refused(alloc);
     let mut source = SliceSource::new(input, 4096, None);
     let mut sink = SliceSink::new(room, 4096, None);
     let status = run(alloc, words.as_slice(), &mut source, &mut sink);
-    let refused_after = is_refused(alloc);
+    let refused_after = are_small_allocations_refused(alloc);
     drop(plug);
     drop(hoard);
     if refused_before && refused_after {
@@ -161,7 +161,7 @@ fn run_without_memory(
 
 // Checks a command that allocates nothing: with no memory left it prints this text, with this
 // status.
-fn check_without_memory(
+fn check_prints_with_no_memory_left(
     rt: &(impl Abort + AllocGlobal),
     words: &str,
     input: &[u8],
@@ -169,7 +169,7 @@ fn check_without_memory(
     text: &str,
 ) {
     let mut room = [0u8; 256];
-    let found = run_without_memory(rt.alloc(), words, input, &mut room);
+    let found = run_with_no_memory_left(rt.alloc(), words, input, &mut room);
     let is_right = match found {
         Ok(Some((found, written))) => {
             found == status && room.get(..written) == Some(text.as_bytes())
@@ -180,8 +180,8 @@ fn check_without_memory(
 }
 
 #[test]
-fn each_request_for_memory_refused(rt: HostRuntime) {
-    check_refusals(
+fn refused_allocations_are_reported(rt: HostRuntime) {
+    check_reports_refused_allocations(
         &rt,
         "sum b128 key=0102 salt=73616c74 persona=706572736f6e61",
         b"abc",
@@ -189,14 +189,14 @@ fn each_request_for_memory_refused(rt: HostRuntime) {
         16,
     );
     let lines = b"u 0 6162\nc 0\nu 0 63\nd 0\nu 1 63\nf 1\nf 0\n";
-    check_refusals(&rt, "script b512", lines, &[ABC, ABC, NOTHING], 16);
+    check_reports_refused_allocations(&rt, "script b512", lines, &[ABC, ABC, NOTHING], 16);
     let transcript = "w 0000000001010040|7* 0000000000000000|\ne 128 1 |128*2a|\n";
-    check_refusals(&rt, "steps b512", &[0x2a; 128], &[transcript], 16);
+    check_reports_refused_allocations(&rt, "steps b512", &[0x2a; 128], &[transcript], 16);
     let root = "14b0752e3ca5c2b4f5df98dcb4fab97caeda23424260d531f9b0b52310bb58ee\
         cb6e13211a8298c3e52d543a21efa545053f3006100629ff6bd181611b38f8c8\n";
-    check_refusals(&rt, "tree b512 4 salt= persona=", b"abcde", &[root], 128);
-    check_refusals(&rt, "leaves 4 0 more salt=", b"abcd", &[FIRST, "\n"], 16);
-    check_refusals(
+    check_reports_refused_allocations(&rt, "tree b512 4 salt= persona=", b"abcde", &[root], 128);
+    check_reports_refused_allocations(&rt, "leaves 4 0 more salt=", b"abcd", &[FIRST, "\n"], 16);
+    check_reports_refused_allocations(
         &rt,
         "root b128 4 salt=",
         FIRST.as_bytes(),
@@ -206,9 +206,9 @@ fn each_request_for_memory_refused(rt: HostRuntime) {
 }
 
 #[test]
-fn each_request_of_a_witness_refused(rt: HostRuntime) {
+fn refused_allocations_of_witness_reported(rt: HostRuntime) {
     let pair = [B0, "1 1 61|127*00|\n", B0, "1 1 62|127*00|\n"];
-    check_refusals(&rt, "witness b0 61 62", b"", &pair, 16);
+    check_reports_refused_allocations(&rt, "witness b0 61 62", b"", &pair, 16);
     for words in [
         "witness b0 61 61",
         "witness b512 61 61",
@@ -217,19 +217,19 @@ fn each_request_of_a_witness_refused(rt: HostRuntime) {
         "witness s256 61 -",
         "witness s8 - 62",
     ] {
-        check_refusals(&rt, words, b"", &["none\n"], 16);
+        check_reports_refused_allocations(&rt, words, b"", &["none\n"], 16);
     }
 }
 
 #[test]
-fn answers_that_take_no_memory(rt: HostRuntime) {
+fn some_commands_need_no_memory(rt: HostRuntime) {
     let digest = "508c5e8c327c14e2e1a72ba34eeb452f37458b209ed63a294d999b4c86675982\n";
-    check_without_memory(&rt, "sum s256", b"abc", 0, digest);
-    check_without_memory(&rt, "witness b512 - -", b"", 0, "none\n");
-    check_without_memory(&rt, "witness s0 - -", b"", 0, "none\n");
-    check_without_memory(&rt, "", b"", 2, "b2: wrong words\n");
-    check_without_memory(&rt, "sum b999", b"", 2, "b2: wrong words\n");
-    check_without_memory(&rt, "tree s256 4", b"", 2, "b2: wrong words\n");
-    check_without_memory(&rt, "steps b512 key=", b"", 2, "b2: wrong length\n");
-    check_without_memory(&rt, "sum b512 salt=1", b"", 2, "b2: wrong hex\n");
+    check_prints_with_no_memory_left(&rt, "sum s256", b"abc", 0, digest);
+    check_prints_with_no_memory_left(&rt, "witness b512 - -", b"", 0, "none\n");
+    check_prints_with_no_memory_left(&rt, "witness s0 - -", b"", 0, "none\n");
+    check_prints_with_no_memory_left(&rt, "", b"", 2, "b2: wrong words\n");
+    check_prints_with_no_memory_left(&rt, "sum b999", b"", 2, "b2: wrong words\n");
+    check_prints_with_no_memory_left(&rt, "tree s256 4", b"", 2, "b2: wrong words\n");
+    check_prints_with_no_memory_left(&rt, "steps b512 key=", b"", 2, "b2: wrong length\n");
+    check_prints_with_no_memory_left(&rt, "sum b512 salt=1", b"", 2, "b2: wrong hex\n");
 }

@@ -1,12 +1,12 @@
 //! Outputs of BLAKE2X and derived keys. `hashlib` has none: the values are those of the model in
 //! `tests/oracle.py`, and Go's package has the same.
 
-use super::{add_output, check_rows, is_digest_of, output_of};
+use super::{append_output, check_rows_of_commands, is_digest_of_outputs, output_if_successful};
 use std::process::Abort;
 
 #[test]
-fn prints_outputs(rt: HostRuntime) {
-    check_rows(&rt, OUTPUTS, None, 0);
+fn xof_outputs_are_printed(rt: HostRuntime) {
+    check_rows_of_commands(&rt, OUTPUTS, None, 0);
 }
 
 const OUTPUTS: &str = "\
@@ -26,18 +26,18 @@ sum s128 persona-text=apple|abc|920ddb0203d8ef082ac648fb064a5940";
 
 // Checks that a command over an input prints the bytes of these digits, and no newline. Bars
 // separate the three.
-fn check_raw(rt: &(impl Abort + AllocGlobal), row: &str) {
+fn check_raw_bytes(rt: &(impl Abort + AllocGlobal), row: &str) {
     let (words, rest) = row.split_once('|').unwrap_or((row, ""));
     let (input, digits) = rest.split_once('|').unwrap_or((rest, ""));
-    let output = output_of(rt.alloc(), &[words], input.as_bytes());
+    let output = output_if_successful(rt.alloc(), &[words], input.as_bytes());
     let found = hex::encode(rt.alloc(), output.as_slice()).expect(rt, words);
     assert_eq!(rt; found.as_str(), digits, "b2 {words}");
 }
 
 #[test]
-fn prints_raw_outputs(rt: HostRuntime) {
+fn raw_outputs_have_no_newline(rt: HostRuntime) {
     for row in RAW_OUTPUTS.lines() {
-        check_raw(&rt, row);
+        check_raw_bytes(&rt, row);
     }
 }
 
@@ -53,31 +53,31 @@ derive 3 raw raw|key|53d860";
 
 // Outputs of several pieces, the longest of BLAKE2Xs among them.
 #[test]
-fn prints_long_outputs(rt: HostRuntime) {
+fn outputs_of_several_pieces_are_printed(rt: HostRuntime) {
     let (mut long, mut longest) = (Vec::new(rt.alloc()), Vec::new(rt.alloc()));
-    add_output(&rt, &mut long, &["xof xb 10000"], b"abc");
-    add_output(&rt, &mut longest, &["xof xs 65534"], b"abc");
+    append_output(&rt, &mut long, &["xof xb 10000"], b"abc");
+    append_output(&rt, &mut longest, &["xof xs 65534"], b"abc");
     let wanted = "a6dc995dc95bea9381a29cccba8b872be1483a584a6e5d8f532578426e236192";
-    assert!(rt; is_digest_of(long.as_slice(), wanted));
+    assert!(rt; is_digest_of_outputs(long.as_slice(), wanted));
     let wanted = "06f02728e14ef3df3ae310afdd48b04a2e99e36e4787ab8dd767dd36d3c947e9";
-    assert!(rt; is_digest_of(longest.as_slice(), wanted));
+    assert!(rt; is_digest_of_outputs(longest.as_slice(), wanted));
 }
 
 #[test]
-fn prints_long_raw_outputs(rt: HostRuntime) {
+fn long_raw_outputs_are_printed(rt: HostRuntime) {
     let (mut long, mut longest) = (Vec::new(rt.alloc()), Vec::new(rt.alloc()));
-    add_output(&rt, &mut long, &["xof xb 10000 raw"], b"abc");
-    add_output(&rt, &mut longest, &["xof xs 65534 raw"], b"abc");
+    append_output(&rt, &mut long, &["xof xb 10000 raw"], b"abc");
+    append_output(&rt, &mut longest, &["xof xs 65534 raw"], b"abc");
     let wanted = "e87179bfb1b75653d476f74f7ee0c315b643f1fc6941cc0a485026605a7d5b71";
-    assert!(rt; is_digest_of(long.as_slice(), wanted));
+    assert!(rt; is_digest_of_outputs(long.as_slice(), wanted));
     let wanted = "88bdcee274737362c99a3a549b253f1f239d8327c3933793105cc6474466dbb8";
-    assert!(rt; is_digest_of(longest.as_slice(), wanted));
+    assert!(rt; is_digest_of_outputs(longest.as_slice(), wanted));
 }
 
 // A key that is the input has 1 to 64 bytes.
 #[test]
-fn refuses_lengths_of_keys(rt: HostRuntime) {
-    check_rows(&rt, WRONG_KEYS, None, 2);
+fn derived_key_needs_key_of_1_to_64_bytes(rt: HostRuntime) {
+    check_rows_of_commands(&rt, WRONG_KEYS, None, 2);
 }
 
 const WRONG_KEYS: &str = "\

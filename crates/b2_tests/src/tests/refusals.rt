@@ -1,6 +1,6 @@
 //! Arguments that are refused.
 
-use super::{check_rows, words_of};
+use super::{check_rows_of_commands, split_words};
 use b2_commands::run;
 use blake2::streams::{SliceSink, SliceSource};
 use std::alloc::{AllocError, Global};
@@ -169,14 +169,17 @@ tree b512 4 persona=0000000000000000000000000000000000||b2: wrong length\n\
 
 // The source fails at its first read, which shows that no command reads it.
 #[test]
-fn refuses_words(rt: HostRuntime) {
-    check_rows(&rt, REFUSALS, Some(0), 2);
+fn wrong_arguments_are_refused_unread(rt: HostRuntime) {
+    check_rows_of_commands(&rt, REFUSALS, Some(0), 2);
 }
 
-// Runs `witness` with an empty argument as the second message, which `words_of` can't make.
+// Runs `witness` with an empty argument as the second message, which `split_words` can't make.
 // Returns its status, and how many bytes it prints into the room.
-fn run_no_digits(alloc: Global, room: &mut [u8]) -> Result<(u8, usize), AllocError> {
-    let mut words = words_of(alloc, "witness b512 61")?;
+fn run_witness_of_empty_argument(
+    alloc: Global,
+    room: &mut [u8],
+) -> Result<(u8, usize), AllocError> {
+    let mut words = split_words(alloc, "witness b512 61")?;
     words.push(String::new(alloc))?;
     let mut source = SliceSource::new(b"", 4096, Some(0));
     let mut sink = SliceSink::new(room, 4096, None);
@@ -185,9 +188,9 @@ fn run_no_digits(alloc: Global, room: &mut [u8]) -> Result<(u8, usize), AllocErr
 }
 
 #[test]
-fn refuses_no_digits(rt: HostRuntime) {
+fn empty_message_argument_is_refused(rt: HostRuntime) {
     let mut room = [0u8; 64];
-    let found = run_no_digits(rt.alloc(), &mut room);
+    let found = run_witness_of_empty_argument(rt.alloc(), &mut room);
     assert!(rt; found == Ok((2, 14)));
     assert!(rt; room.get(..14) == Some(b"b2: wrong hex\n".as_slice()));
 }

@@ -1,6 +1,6 @@
 //! `b2 sum`.
 
-use super::check_rows;
+use super::check_rows_of_commands;
 
 // The arguments, the input and the line.
 const DIGESTS: &str = "\
@@ -29,6 +29,6 @@ sum s256 key=0102 persona=706572736f6e61 salt=73616c74|abc|\
 ";
 
 #[test]
-fn prints_digests(rt: HostRuntime) {
-    check_rows(&rt, DIGESTS, None, 0);
+fn sum_prints_digests(rt: HostRuntime) {
+    check_rows_of_commands(&rt, DIGESTS, None, 0);
 }

@@ -1,6 +1,6 @@
 //! `b2 steps`.
 
-use super::check_prints;
+use super::check_prints_only_text;
 
 // The zero words after the first word of a line, and 128 bytes of zeros.
 const ZERO_WORDS: &str = "7* 0000000000000000|\n";
@@ -10,27 +10,27 @@ const ZEROS: &str = "128*00|\n";
 const STARS: &str = "128*2a|\n";
 
 #[test]
-fn prints_unkeyed_transcripts(rt: HostRuntime) {
+fn unkeyed_transcripts_are_printed(rt: HostRuntime) {
     let start = "w 0000000001010040";
-    check_prints(
+    check_prints_only_text(
         &rt,
         "steps b512",
         b"",
         &[start, ZERO_WORDS, "e 0 1 ", ZEROS],
     );
-    check_prints(
+    check_prints_only_text(
         &rt,
         "steps b512",
         &[0x2a; 128],
         &[start, ZERO_WORDS, "e 128 1 ", STARS],
     );
-    check_prints(
+    check_prints_only_text(
         &rt,
         "steps b512",
         &[0x2a; 129],
         &[start, ZERO_WORDS, "e 128 0 ", STARS, "e 129 1 2a|127*00|\n"],
     );
-    check_prints(
+    check_prints_only_text(
         &rt,
         "steps b128",
         &[0; 256],
@@ -46,14 +46,14 @@ fn prints_unkeyed_transcripts(rt: HostRuntime) {
 }
 
 #[test]
-fn prints_keyed_transcripts(rt: HostRuntime) {
-    check_prints(
+fn keyed_transcripts_are_printed(rt: HostRuntime) {
+    check_prints_only_text(
         &rt,
         "steps s256 key=01",
         b"",
         &["w 01010120|7* 00000000|\ne 64 1 01|63*00|\n"],
     );
-    check_prints(
+    check_prints_only_text(
         &rt,
         "steps s256 key=000102030405060708090a0b0c0d0e0f101112131415161718191a1b1c1d1e1f \
         persona=706572736f6e616c",
@@ -63,7 +63,7 @@ fn prints_keyed_transcripts(rt: HostRuntime) {
             "e 64 1 000102030405060708090a0b0c0d0e0f101112131415161718191a1b1c1d1e1f|32*00|\n",
         ],
     );
-    check_prints(
+    check_prints_only_text(
         &rt,
         "steps b512 salt=616263 persona=30313233343536373839616263646566 key=01",
         &[0x2a; 200],

@@ -1,6 +1,6 @@
 //! `b2 tree`.
 
-use super::check_rows;
+use super::check_rows_of_commands;
 
 // The arguments, the input and the line.
 const ROOTS: &str = "\
@@ -22,6 +22,6 @@ tree b256 3000000000 salt=30313233343536373839616263646566|abc|\
 ";
 
 #[test]
-fn prints_roots(rt: HostRuntime) {
-    check_rows(&rt, ROOTS, None, 0);
+fn tree_prints_roots(rt: HostRuntime) {
+    check_rows_of_commands(&rt, ROOTS, None, 0);
 }

@@ -1,6 +1,6 @@
 //! `b2 witness`.
 
-use super::{check_prints, check_rows};
+use super::{check_prints_only_text, check_rows_of_commands};
 use blake2::{Blake2b, Blake2s, Digest};
 use std::process::Abort;
 
@@ -12,20 +12,20 @@ pub(super) const B0: &str =
 const S0: &str = "s 6b08e667 bb67ae85 3c6ef372 a54ff53a 510e527f 9b05688c 1f83d9ab 5be0cd19 ";
 
 #[test]
-fn prints_pairs(rt: HostRuntime) {
-    check_prints(
+fn witness_prints_differing_steps(rt: HostRuntime) {
+    check_prints_only_text(
         &rt,
         "witness b0 61 62",
         b"",
         &[B0, "1 1 61|127*00|\n", B0, "1 1 62|127*00|\n"],
     );
-    check_prints(
+    check_prints_only_text(
         &rt,
         "witness s0 61 62",
         b"",
         &[S0, "1 1 61|63*00|\n", S0, "1 1 62|63*00|\n"],
     );
-    check_prints(
+    check_prints_only_text(
         &rt,
         "witness b0 - 00",
         b"",
@@ -34,7 +34,7 @@ fn prints_pairs(rt: HostRuntime) {
 }
 
 // Returns two of the 257 messages 0000 to 0100 that have equal digests of one byte.
-fn equal_pair<H: Digest<1> + Drop>() -> Option<(u16, u16)>
+fn messages_with_equal_1_byte_digests<H: Digest<1> + Drop>() -> Option<(u16, u16)>
     requires { H.is_supported }
 {
     let mut seen = [None; 256];
@@ -59,15 +59,15 @@ fn check_equal_pair<H: Digest<1> + Drop>(
 )
     requires { H.is_supported }
 {
-    let (a, b) = equal_pair::<H>().expect(rt, "a pair");
+    let (a, b) = messages_with_equal_1_byte_digests::<H>().expect(rt, "a pair");
     let words = format!(in rt.alloc(); "witness {kind} {a:04x} {b:04X}").expect(rt, kind);
     let first = format!(in rt.alloc(); "{chain} 2 1 {a:04x}|{zeros}*00|\n").expect(rt, kind);
     let second = format!(in rt.alloc(); "{chain} 2 1 {b:04x}|{zeros}*00|\n").expect(rt, kind);
-    check_prints(rt, words.as_str(), b"", &[first.as_str(), second.as_str()]);
+    check_prints_only_text(rt, words.as_str(), b"", &[first.as_str(), second.as_str()]);
 }
 
 #[test]
-fn prints_pairs_of_equal_bytes(rt: HostRuntime) {
+fn witness_of_equal_1_byte_digests(rt: HostRuntime) {
     let chain = "s 6a09e667f2bdc909 bb67ae8584caa73b 3c6ef372fe94f82b a54ff53a5f1d36f1 \
         510e527fade682d1 9b05688c2b3e6c1f 1f83d9abfb41bd6b 5be0cd19137e2179";
     check_equal_pair::<Blake2b<1>>(&rt, "b8", chain, "126");
@@ -91,6 +91,6 @@ witness b8 61 62||none\n\
 
 // The source fails at its first read, which shows that no command reads it.
 #[test]
-fn prints_none(rt: HostRuntime) {
-    check_rows(&rt, NONE, Some(0), 0);
+fn no_witness_is_printed(rt: HostRuntime) {
+    check_rows_of_commands(&rt, NONE, Some(0), 0);
 }

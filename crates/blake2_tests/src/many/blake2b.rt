@@ -2,25 +2,30 @@
 
 ghost use Rattle.std.specs.Prelude.{◌≤◌};
 
-use super::{counted, keyed, read_row, text};
+use super::{counting_bytes, counting_message, input_with_key, read_row};
 use blake2::many::blake2b::{accepts_four, hash_four};
 use blake2::transcripts::Input;
-use blake2_test_support::inputs::{input, numbered, reads, unkeyed};
+use blake2_test_support::inputs::{has_hex_digits, input, split_leading_number, unkeyed};
 
-// Four inputs, each of the first n bytes of its message, which are what a row says, as `eight_of`
-// has them.
-fn inputs_of<'a>(bytes: &'a [u8; 4306], n: usize, what: &str, key: &'a [u8]) -> [Input<'a>; 4]
+// Four inputs, each of the first n bytes of its message, which are what a row says, as
+// `eight_inputs_of_kind` has them.
+fn four_inputs_of_kind<'a>(
+    bytes: &'a [u8; 4306],
+    n: usize,
+    what: &str,
+    key: &'a [u8],
+) -> [Input<'a>; 4]
     requires { n ≤ 4096 }
 {
     let mut inputs = [
-        unkeyed(text(bytes, 0, n)),
-        input(None, b"salt", b"", text(bytes, 40, n)),
-        input(None, b"", b"persona", text(bytes, 80, n)),
+        unkeyed(counting_message(bytes, 0, n)),
+        input(None, b"salt", b"", counting_message(bytes, 40, n)),
+        input(None, b"", b"persona", counting_message(bytes, 80, n)),
         input(
             None,
             b"0123456789abcdef",
             b"fedcba9876543210",
-            text(bytes, 120, n),
+            counting_message(bytes, 120, n),
         ),
     ];
     for (j, input) in inputs.iter_mut().enumerate() {
@@ -33,8 +38,8 @@ fn inputs_of<'a>(bytes: &'a [u8; 4306], n: usize, what: &str, key: &'a [u8]) -> 
 }
 
 // Whether the inputs are accepted, and have these digests.
-fn digests_are(inputs: &[Input<'_>; 4], wanted: &str) -> bool {
-    accepts_four(inputs) && reads(hash_four::<16>(inputs).as_flattened(), wanted)
+fn have_digests(inputs: &[Input<'_>; 4], wanted: &str) -> bool {
+    accepts_four(inputs) && has_hex_digits(hash_four::<16>(inputs).as_flattened(), wanted)
 }
 
 // What the inputs are, the length of their messages, and their digests.
@@ -54,14 +59,14 @@ c7b0da6e42363ff6417ccbd2fefa6f5175fe66049a1f65c09f50f5aa468fe556\n\
 ";
 
 #[test]
-fn hash_four_inputs(rt: HostRuntime) {
+fn four_inputs_have_their_digests(rt: HostRuntime) {
     let key = [7; 64];
-    let bytes = counted();
+    let bytes = counting_bytes();
     for row in DIGESTS.lines() {
         let (what, n, wanted) = read_row(row);
         assert!(rt; n <= 4096, "{row}");
-        let inputs = inputs_of(&bytes, n, what, &key);
-        assert!(rt; digests_are(&inputs, wanted), "{n} bytes");
+        let inputs = four_inputs_of_kind(&bytes, n, what, &key);
+        assert!(rt; have_digests(&inputs, wanted), "{n} bytes");
     }
 }
 
@@ -74,19 +79,19 @@ f37dae6f4c9eb4f16086e52d9202faf0ba01fa9034bd6aab5d2f8882ff74e439\n\
 
 // A key counts for 128 bytes, so n bytes under one are next to n + 128 without.
 #[test]
-fn hash_four_that_count_alike(rt: HostRuntime) {
+fn keyed_and_unkeyed_of_equal_count_by_four(rt: HostRuntime) {
     let key = [7; 64];
-    let bytes = counted();
+    let bytes = counting_bytes();
     for row in ALIKE.lines() {
-        let (n, wanted) = numbered(row).unwrap_or((usize::MAX, row));
+        let (n, wanted) = split_leading_number(row).unwrap_or((usize::MAX, row));
         assert!(rt; n <= 3000, "{row}");
-        let p0 = keyed(&key, text(&bytes, 0, n));
-        let p1 = unkeyed(text(&bytes, 40, n + 128));
-        let p2 = keyed(&key, text(&bytes, 80, n));
-        let p3 = unkeyed(text(&bytes, 120, n + 128));
+        let p0 = input_with_key(&key, counting_message(&bytes, 0, n));
+        let p1 = unkeyed(counting_message(&bytes, 40, n + 128));
+        let p2 = input_with_key(&key, counting_message(&bytes, 80, n));
+        let p3 = unkeyed(counting_message(&bytes, 120, n + 128));
         let mut inputs = [p0, p1, p2, p3];
-        assert!(rt; digests_are(&inputs, wanted), "{n} bytes");
-        inputs[3] = unkeyed(text(&bytes, 120, n + 129));
+        assert!(rt; have_digests(&inputs, wanted), "{n} bytes");
+        inputs[3] = unkeyed(counting_message(&bytes, 120, n + 129));
         assert!(rt; !accepts_four(&inputs), "{n} bytes");
     }
 }

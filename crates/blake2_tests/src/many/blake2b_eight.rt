@@ -1,13 +1,13 @@
 //! Eight messages of BLAKE2b in parallel.
 
-use super::{counted, eight_of, read_row};
+use super::{counting_bytes, eight_inputs_of_kind, read_row};
 use blake2::many::blake2b::eight::{accepts_eight, hash_eight};
 use blake2::transcripts::Input;
-use blake2_test_support::inputs::reads;
+use blake2_test_support::inputs::has_hex_digits;
 
 // Whether the inputs are accepted, and have these digests.
-fn digests_are(inputs: &[Input<'_>; 8], wanted: &str) -> bool {
-    accepts_eight(inputs) && reads(hash_eight::<16>(inputs).as_flattened(), wanted)
+fn have_digests(inputs: &[Input<'_>; 8], wanted: &str) -> bool {
+    accepts_eight(inputs) && has_hex_digits(hash_eight::<16>(inputs).as_flattened(), wanted)
 }
 
 // What the inputs are, the length of their messages, and their digests.
@@ -39,13 +39,13 @@ nodes|129|aaf1b0371f6d4ee49ee4fb5ddd9c49ef654ab7e1cf22723763861dca03c75487\
 ";
 
 #[test]
-fn hash_eight_inputs(rt: HostRuntime) {
+fn eight_inputs_have_their_digests(rt: HostRuntime) {
     let key = [7; 32];
-    let bytes = counted();
+    let bytes = counting_bytes();
     for row in DIGESTS.lines() {
         let (what, n, wanted) = read_row(row);
         assert!(rt; n <= 4096, "{row}");
-        let inputs = eight_of(&bytes, n, what, &key);
-        assert!(rt; digests_are(&inputs, wanted), "{n} bytes");
+        let inputs = eight_inputs_of_kind(&bytes, n, what, &key);
+        assert!(rt; have_digests(&inputs, wanted), "{n} bytes");
     }
 }

@@ -1,13 +1,13 @@
 //! Eight messages of BLAKE2s in parallel.
 
-use super::{counted, eight_of, keyed, read_row, text};
+use super::{counting_bytes, counting_message, eight_inputs_of_kind, input_with_key, read_row};
 use blake2::many::blake2s::{accepts_eight, hash_eight};
 use blake2::transcripts::Input;
-use blake2_test_support::inputs::{numbered, reads, unkeyed};
+use blake2_test_support::inputs::{has_hex_digits, split_leading_number, unkeyed};
 
 // Whether the inputs are accepted, and have these digests.
-fn digests_are(inputs: &[Input<'_>; 8], wanted: &str) -> bool {
-    accepts_eight(inputs) && reads(hash_eight::<16>(inputs).as_flattened(), wanted)
+fn have_digests(inputs: &[Input<'_>; 8], wanted: &str) -> bool {
+    accepts_eight(inputs) && has_hex_digits(hash_eight::<16>(inputs).as_flattened(), wanted)
 }
 
 // What the inputs are, the length of their messages, and their digests.
@@ -39,14 +39,14 @@ aa839c27faa00a2c8045b0e1f0326b4cfb4e2940a93081cedadf30ed75c6b589\
 ";
 
 #[test]
-fn hash_eight_inputs(rt: HostRuntime) {
+fn eight_inputs_have_their_digests(rt: HostRuntime) {
     let key = [7; 32];
-    let bytes = counted();
+    let bytes = counting_bytes();
     for row in DIGESTS.lines() {
         let (what, n, wanted) = read_row(row);
         assert!(rt; n <= 4096, "{row}");
-        let inputs = eight_of(&bytes, n, what, &key);
-        assert!(rt; digests_are(&inputs, wanted), "{n} bytes");
+        let inputs = eight_inputs_of_kind(&bytes, n, what, &key);
+        assert!(rt; have_digests(&inputs, wanted), "{n} bytes");
     }
 }
 
@@ -63,23 +63,23 @@ db28b333275428a33c6e1872e4789ee08bea75e2397c3accbeeea83f0fc8aa64\n\
 
 // A key counts for 64 bytes, so n bytes under one are next to n + 64 without.
 #[test]
-fn hash_eight_that_count_alike(rt: HostRuntime) {
+fn keyed_and_unkeyed_of_equal_count_in_8(rt: HostRuntime) {
     let key = [7; 32];
-    let bytes = counted();
+    let bytes = counting_bytes();
     for row in ALIKE.lines() {
-        let (n, wanted) = numbered(row).unwrap_or((usize::MAX, row));
+        let (n, wanted) = split_leading_number(row).unwrap_or((usize::MAX, row));
         assert!(rt; n <= 3000, "{row}");
-        let p0 = keyed(&key, text(&bytes, 0, n));
-        let p1 = unkeyed(text(&bytes, 30, n + 64));
-        let p2 = keyed(&key, text(&bytes, 60, n));
-        let p3 = unkeyed(text(&bytes, 90, n + 64));
-        let p4 = keyed(&key, text(&bytes, 120, n));
-        let p5 = unkeyed(text(&bytes, 150, n + 64));
-        let p6 = keyed(&key, text(&bytes, 180, n));
-        let p7 = unkeyed(text(&bytes, 210, n + 64));
+        let p0 = input_with_key(&key, counting_message(&bytes, 0, n));
+        let p1 = unkeyed(counting_message(&bytes, 30, n + 64));
+        let p2 = input_with_key(&key, counting_message(&bytes, 60, n));
+        let p3 = unkeyed(counting_message(&bytes, 90, n + 64));
+        let p4 = input_with_key(&key, counting_message(&bytes, 120, n));
+        let p5 = unkeyed(counting_message(&bytes, 150, n + 64));
+        let p6 = input_with_key(&key, counting_message(&bytes, 180, n));
+        let p7 = unkeyed(counting_message(&bytes, 210, n + 64));
         let mut inputs = [p0, p1, p2, p3, p4, p5, p6, p7];
-        assert!(rt; digests_are(&inputs, wanted), "{n} bytes");
-        inputs[7] = unkeyed(text(&bytes, 210, n + 65));
+        assert!(rt; have_digests(&inputs, wanted), "{n} bytes");
+        inputs[7] = unkeyed(counting_message(&bytes, 210, n + 65));
         assert!(rt; !accepts_eight(&inputs), "{n} bytes");
     }
 }

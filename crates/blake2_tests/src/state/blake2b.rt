@@ -1,8 +1,8 @@
 //! Digests from hashlib: in pieces and after a reset, and of nodes of trees.
 
-use super::{keyed, node};
+use super::{keyed_state_parameters, node_with_inner_length};
 use blake2_state::blake2b::State;
-use blake2_test_support::inputs::{count_up, reads};
+use blake2_test_support::inputs::{fill_with_counting_bytes, has_hex_digits};
 use std::process::Abort;
 
 // Absorbs the input.
@@ -23,7 +23,7 @@ fn check_digest(rt: &impl Abort, state: &State, wanted: &str) {
     let mut out = [0; 64];
     state.write_digest(&mut out);
     let digest = &out[..state.output_size as usize];
-    assert!(rt; reads(digest, wanted), "{wanted}");
+    assert!(rt; has_hex_digits(digest, wanted), "{wanted}");
     assert!(rt;
         state.is_digest(digest) && !state.is_digest(&digest[1..]),
         "{wanted}"
@@ -31,10 +31,13 @@ fn check_digest(rt: &impl Abort, state: &State, wanted: &str) {
 }
 
 #[test]
-fn in_pieces_and_after_a_reset(rt: HostRuntime) {
-    let mut state = State::init_salt_personal(&keyed()).expect(&rt, "a keyed state");
+fn digest_in_pieces_and_after_a_reset(rt: HostRuntime) {
+    let mut state = State::init_salt_personal(&keyed_state_parameters()).expect(
+        &rt,
+        "a keyed state",
+    );
     let mut text = [0; 300];
-    count_up(&mut text);
+    fill_with_counting_bytes(&mut text);
     update_or_abort(&rt, &mut state, &text[..3]);
     reset_or_abort(&rt, &mut state);
     update_or_abort(&rt, &mut state, &text[..7]);
@@ -43,7 +46,7 @@ fn in_pieces_and_after_a_reset(rt: HostRuntime) {
 }
 
 #[test]
-fn from_a_node_of_a_tree(rt: HostRuntime) {
+fn digest_of_a_tree_node(rt: HostRuntime) {
     // Fanout 2, depth 3, leaves of 4,096 bytes, node 5 of depth 1, inner length 64 (the BLAKE2
     // document, 2.8).
     let mut block = [0; 64];
@@ -56,10 +59,10 @@ fn from_a_node_of_a_tree(rt: HostRuntime) {
 }
 
 #[test]
-fn a_keyed_node_of_a_tree(rt: HostRuntime) {
-    let tree = node(64);
+fn digest_of_a_keyed_tree_node(rt: HostRuntime) {
+    let tree = node_with_inner_length(64);
     assert!(rt; State::admits_tree(&tree));
-    let mut state = State::init_tree(&keyed(), &tree).expect(&rt, "a node");
+    let mut state = State::init_tree(&keyed_state_parameters(), &tree).expect(&rt, "a node");
     update_or_abort(&rt, &mut state, b"abc");
     check_digest(&rt, &state, "175b5f9bce20ac14476a90f58f14b6495b14ae81");
     // The last node of its level, also after a reset, which keeps the flag.

@@ -9,7 +9,7 @@ use std::process::Abort;
 
 // The root that a state returns for a message of which the leaves between these two come as their
 // digests, which the state hashes one by one, and what follows in two pieces.
-pub(crate) fn root_by_state(
+pub(crate) fn root_by_state_from_leaf_digests(
     rt: &impl Abort,
     message: &[u8],
     from: usize,
@@ -46,7 +46,7 @@ pub(crate) fn root_by_state(
 }
 
 #[test]
-fn leaves_are_accepted_by_a_state(rt: HostRuntime) {
+fn state_accepts_exactly_right_leaves(rt: HostRuntime) {
     let mut state = TreeState::new(64, b"", b"", 1 << 31).expect(&rt, "a state");
     assert!(rt; state.is_at_boundary());
     assert!(rt; state.accepts_leaves(64, 1) && state.accepts_leaves(0, 0));

@@ -5,7 +5,7 @@ use blake2_tree::{hash_leaves, is_range, leaf_count, tree_root};
 
 // The bytes after the root stay.
 #[test]
-fn plain_root_of_twenty_bytes(rt: HostRuntime) {
+fn root_of_20_bytes_leaves_the_rest(rt: HostRuntime) {
     let salt = b"0123456789abcdef";
     let persona = b"fedcba9876543210";
     let root = tree_root::<20>(salt, persona, u32::MAX, b"abc");
@@ -21,7 +21,7 @@ fn plain_root_of_twenty_bytes(rt: HostRuntime) {
 
 // The root over digests has the number of bytes that there is room for.
 #[test]
-fn plain_roots_of_leaves(rt: HostRuntime) {
+fn root_over_digests_fills_its_room(rt: HostRuntime) {
     let message = b"abcdefghi";
     let mut digests = [0; 192];
     assert!(rt; is_range(4, 0, true, 9) && leaf_count(4, 9) == 3);

@@ -12,7 +12,7 @@ const LIMITS: Limits = Limits {
 
 // Eleven leaves of four bytes, of which the last has one: four for each thread, and three.
 #[test]
-fn plan_of_a_message(rt: HostRuntime) {
+fn plan_of_eleven_leaves(rt: HostRuntime) {
     let limits = LIMITS;
     assert!(rt; limits.are_limits());
     let plan = Plan::of_message(4, 7, 41, &limits);
@@ -29,7 +29,7 @@ fn plan_of_a_message(rt: HostRuntime) {
 
 // Two bytes fill the open leaf, and four come after six whole leaves, two for each thread.
 #[test]
-fn plan_of_an_update(rt: HostRuntime) {
+fn plan_of_update_after_an_open_leaf(rt: HostRuntime) {
     let limits = LIMITS;
     assert!(rt; limits.are_limits());
     let plan = Plan::of_update(4, 6, 30, &limits);
@@ -42,7 +42,7 @@ fn plan_of_an_update(rt: HostRuntime) {
 }
 
 #[test]
-fn lengths_are_accepted(rt: HostRuntime) {
+fn lengths_are_accepted_up_to_2_to_58(rt: HostRuntime) {
     assert!(rt; accepts(1, 0, 0, 1) && accepts(64, 16, 16, u32::MAX));
     assert!(rt; !accepts(0, 0, 0, 1) && !accepts(65, 0, 0, 1) && !accepts(1, 0, 0, 0));
     assert!(rt; !accepts(1, 17, 0, 1) && !accepts(1, 0, 17, 1));

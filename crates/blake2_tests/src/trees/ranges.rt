@@ -4,15 +4,15 @@
 ghost use Rattle.std.specs.Prelude.{◌≤◌, length};
 
 use crate::checks::check_digits;
-use crate::state::root_by_state;
+use crate::state::root_by_state_from_leaf_digests;
 use blake2::Blake2b256;
 use blake2::digest::{Digest, Update};
-use blake2_test_support::inputs::{count_up, numbered};
+use blake2_test_support::inputs::{fill_with_counting_bytes, split_leading_number};
 use blake2_tree::{TreeHasher, hash_leaves, is_range, leaf_count, root_of_leaves, tree_root};
 use std::process::Abort;
 
 // Writes the digests of a range to the front of these bytes, and returns how many bytes they are.
-fn hash_range(
+fn write_digests_of_range(
     rt: &impl Abort,
     leaf_length: u32,
     first: u64,
@@ -32,12 +32,12 @@ fn hash_range(
 }
 
 // Checks the digest of the digests of ranges from several leaves on.
-fn check_ranges(rt: &impl Abort, leaf_length: u32, wanted: &str)
+fn check_digest_of_range_digests(rt: &impl Abort, leaf_length: u32, wanted: &str)
     requires least { 1 ≤ leaf_length }
     requires most { leaf_length ≤ 200 }
 {
     let mut text = [0; 1800];
-    count_up(&mut text);
+    fill_with_counting_bytes(&mut text);
     let mut digests = [0; 576];
     let mut all = Blake2b256::new();
     for first in [0, 7, 1 << 40] {
@@ -46,7 +46,14 @@ fn check_ranges(rt: &impl Abort, leaf_length: u32, wanted: &str)
                 let length = (leaves * leaf_length - less) as usize;
                 assert!(rt; length <= text.len());
                 let bytes = &text[..length];
-                let written = hash_range(rt, leaf_length, first, ends, bytes, &mut digests);
+                let written = write_digests_of_range(
+                    rt,
+                    leaf_length,
+                    first,
+                    ends,
+                    bytes,
+                    &mut digests,
+                );
                 assert!(rt; written == 64 * leaves as usize && written <= digests.len());
                 assert!(rt; all.counted() <= 100_000);
                 Update::update(&mut all, &digests[..written]);
@@ -69,25 +76,25 @@ const DIGESTS: &str = "\
 ";
 
 #[test]
-fn digests_of_ranges(rt: HostRuntime) {
+fn digests_of_leaf_ranges_are_known(rt: HostRuntime) {
     for row in DIGESTS.lines() {
-        let (leaf_length, wanted) = numbered(row).unwrap_or((0, row));
+        let (leaf_length, wanted) = split_leading_number(row).unwrap_or((0, row));
         assert!(rt; 1 <= leaf_length && leaf_length <= 200, "{row}");
-        check_ranges(&rt, leaf_length as u32, wanted);
+        check_digest_of_range_digests(&rt, leaf_length as u32, wanted);
     }
 }
 
 // The root from two ranges of a message, of which the first ends at `cut`.
-fn root_of_two(rt: &impl Abort, message: &[u8], cut: usize, ends: bool) -> [u8; 64] {
+fn root_from_two_ranges(rt: &impl Abort, message: &[u8], cut: usize, ends: bool) -> [u8; 64] {
     let mut digests = [0; 704];
     assert!(rt; cut <= message.len());
     let (front, last) = message.split_at(cut);
     let mut at = 0;
     if cut > 0 {
-        at = hash_range(rt, 4, 0, false, front, &mut digests);
+        at = write_digests_of_range(rt, 4, 0, false, front, &mut digests);
     }
     assert!(rt; at <= digests.len());
-    let written = hash_range(rt, 4, cut as u64 / 4, ends, last, &mut digests[at..]);
+    let written = write_digests_of_range(rt, 4, cut as u64 / 4, ends, last, &mut digests[at..]);
     assert!(rt; written <= digests.len() && at + written <= digests.len());
     root_of_leaves(b"salt", b"persona", 4, &digests[..at + written])
 }
@@ -95,36 +102,36 @@ fn root_of_two(rt: &impl Abort, message: &[u8], cut: usize, ends: bool) -> [u8; 
 // Up to eleven leaves of four bytes, cut at each border of leaves. A range of whole leaves has
 // another root if `ends` is not set.
 #[test]
-fn roots_of_two_ranges(rt: HostRuntime) {
+fn root_is_the_same_from_two_ranges(rt: HostRuntime) {
     let mut text = [0; 44];
-    count_up(&mut text);
+    fill_with_counting_bytes(&mut text);
     for length in 1..45 {
         let message = &text[..length];
         let root = tree_root::<64>(b"salt", b"persona", 4, message);
         for cut in 0..12 {
             if 4 * cut < length {
                 assert!(rt;
-                    root_of_two(&rt, message, 4 * cut, true) == root,
+                    root_from_two_ranges(&rt, message, 4 * cut, true) == root,
                     "{length}, {cut}"
                 );
                 let is_whole = length % 4 == 0;
                 if is_whole {
-                    let other = root_of_two(&rt, message, 4 * cut, false);
+                    let other = root_from_two_ranges(&rt, message, 4 * cut, false);
                     assert!(rt; other != root, "{length}, {cut}");
                 }
             }
         }
     }
     let root = tree_root::<64>(b"salt", b"persona", 4, b"");
-    assert!(rt; root_of_two(&rt, b"", 0, true) == root);
+    assert!(rt; root_from_two_ranges(&rt, b"", 0, true) == root);
 }
 
 // The root over digests has the size that is requested.
 #[test]
-fn roots_of_each_size(rt: HostRuntime) {
+fn root_over_digests_has_requested_size(rt: HostRuntime) {
     let message = b"abcdefghi";
     let mut digests = [0; 192];
-    let written = hash_range(&rt, 4, 0, true, message, &mut digests);
+    let written = write_digests_of_range(&rt, 4, 0, true, message, &mut digests);
     assert!(rt; written == 192);
     let none: [u8; 0] = root_of_leaves(b"salt", b"persona", 4, &digests);
     assert!(rt; none == []);
@@ -137,7 +144,7 @@ fn roots_of_each_size(rt: HostRuntime) {
 }
 
 #[test]
-fn leaves_are_counted(rt: HostRuntime) {
+fn leaf_counts_are_right(rt: HostRuntime) {
     assert!(rt; leaf_count(4, 0) == 1 && leaf_count(4, 1) == 1 && leaf_count(4, 4) == 1);
     assert!(rt; leaf_count(4, 5) == 2 && leaf_count(4, 8) == 2 && leaf_count(4, 9) == 3);
     assert!(rt; leaf_count(1, u64::MAX) == u64::MAX);
@@ -146,7 +153,7 @@ fn leaves_are_counted(rt: HostRuntime) {
 }
 
 #[test]
-fn ranges_are_told(rt: HostRuntime) {
+fn lengths_of_ranges_are_accepted(rt: HostRuntime) {
     // No bytes are a range only of a message of none.
     assert!(rt; is_range(4, 0, true, 0) && !is_range(4, 0, false, 0) && !is_range(4, 1, true, 0));
     // Only the message's last leaf may be shorter.
@@ -165,12 +172,18 @@ fn ranges_are_told(rt: HostRuntime) {
 
 // The root that a hasher returns for a message of which the leaves between these two come as
 // their digests, and what follows in two pieces. Each count is as it should be.
-fn root_by_hasher(rt: &impl Abort, message: &[u8], from: usize, to: usize, cut: usize) -> [u8; 64]
+fn root_by_hasher_from_leaf_digests(
+    rt: &impl Abort,
+    message: &[u8],
+    from: usize,
+    to: usize,
+    cut: usize,
+) -> [u8; 64]
     requires { length message.now ≤ 44 }
 {
     let mut digests = [0; 704];
     assert!(rt; from < to && to < cut && cut <= message.len());
-    let written = hash_range(
+    let written = write_digests_of_range(
         rt,
         4,
         from as u64 / 4,
@@ -195,18 +208,30 @@ fn root_by_hasher(rt: &impl Abort, message: &[u8], from: usize, to: usize, cut: 
 // Up to six leaves of four bytes, and each run of whole leaves that does not end the message, by a
 // hasher and by a plain state.
 #[test]
-fn leaves_by_digests_at_every_cut(rt: HostRuntime) {
+fn root_is_the_same_from_leaf_digests(rt: HostRuntime) {
     let mut text = [0; 24];
-    count_up(&mut text);
+    fill_with_counting_bytes(&mut text);
     for length in 5..25 {
         let message = &text[..length];
         let root = tree_root::<64>(b"salt", b"persona", 4, message);
         for from in 0..6 {
             for to in from + 1..6 {
                 for cut in 4 * to + 1..length + 1 {
-                    let found = root_by_hasher(&rt, message, 4 * from, 4 * to, cut);
+                    let found = root_by_hasher_from_leaf_digests(
+                        &rt,
+                        message,
+                        4 * from,
+                        4 * to,
+                        cut,
+                    );
                     assert!(rt; found == root, "{length}, {from}, {to}, {cut}");
-                    let found = root_by_state(&rt, message, 4 * from, 4 * to, cut);
+                    let found = root_by_state_from_leaf_digests(
+                        &rt,
+                        message,
+                        4 * from,
+                        4 * to,
+                        cut,
+                    );
                     assert!(rt; found == root, "{length}, {from}, {to}, {cut}");
                 }
             }
@@ -215,7 +240,7 @@ fn leaves_by_digests_at_every_cut(rt: HostRuntime) {
 }
 
 #[test]
-fn leaves_are_accepted_by_a_hasher(rt: HostRuntime) {
+fn hasher_accepts_exactly_right_leaves(rt: HostRuntime) {
     let mut hasher = TreeHasher::<64>::new(b"", b"", 1 << 31);
     assert!(rt; hasher.is_at_boundary());
     assert!(rt; hasher.accepts_leaves(64, 1) && hasher.accepts_leaves(0, 0));

@@ -1,6 +1,6 @@
 //! Witnesses of two messages with one root.
 
-use super::root_step;
+use super::step_of_root_over_digests;
 use blake2::transcripts::Step;
 use blake2_tree::{TreeWitness, tree_root, tree_witness};
 use std::process::Abort;
@@ -21,25 +21,28 @@ const LEAF_B: [u128; 4] = [
 ];
 
 // The step of a root of no bytes over one leaf of four bytes or fewer.
-fn step_over(leaf: [u128; 4]) -> Step<u64, 128> {
+fn step_of_root_over_one_leaf(leaf: [u128; 4]) -> Step<u64, 128> {
     let digest = leaf.map(|number| number.to_be_bytes());
-    root_step(0x6a09e663f1bcc908, digest.as_flattened())
+    step_of_root_over_digests(0x6a09e663f1bcc908, digest.as_flattened())
 }
 
 // The witness of `a` and `b` in leaves of four bytes, at roots of no bytes, which are all equal:
 // the steps of the roots.
 pub(super) fn witness_of_a_and_b() -> TreeWitness {
-    TreeWitness::Root(step_over(LEAF_A), step_over(LEAF_B))
+    TreeWitness::Root(
+        step_of_root_over_one_leaf(LEAF_A),
+        step_of_root_over_one_leaf(LEAF_B),
+    )
 }
 
 #[test]
-fn witness_of_roots(rt: HostRuntime) {
+fn witness_of_a_and_b_is_their_roots(rt: HostRuntime) {
     let found = tree_witness(rt.alloc(), &[], &[], 4, 0, b"a", b"b");
     assert!(rt; found == Ok(Some(witness_of_a_and_b())), "{found:?}");
 }
 
 // Checks that two messages have no witness at roots of this size, in leaves of four bytes.
-fn check_none(rt: &(impl Abort + AllocGlobal), size: usize, a: &[u8], b: &[u8]) {
+fn check_no_witness(rt: &(impl Abort + AllocGlobal), size: usize, a: &[u8], b: &[u8]) {
     assert!(rt; size <= 64 && a.len() < 10 && b.len() < 10);
     let found = tree_witness(rt.alloc(), &[], &[], 4, size, a, b);
     assert!(rt; found == Ok(None), "{size}, {a:?}, {b:?}");
@@ -49,20 +52,20 @@ fn check_none(rt: &(impl Abort + AllocGlobal), size: usize, a: &[u8], b: &[u8]) 
 
 // The same message has no witness, nor have messages whose roots differ.
 #[test]
-fn no_witness(rt: HostRuntime) {
-    check_none(&rt, 0, b"a", b"a");
-    check_none(&rt, 0, b"", b"");
-    check_none(&rt, 1, b"abcdefghi", b"abcdefghi");
-    check_none(&rt, 64, b"abcdefghi", b"abcdefghi");
-    check_none(&rt, 64, b"abcdefghi", b"abcdefghj");
-    check_none(&rt, 64, b"abcd", b"abcde");
-    check_none(&rt, 64, b"", b"\0");
-    check_none(&rt, 16, b"abcdefgh", b"abcdEfgh");
+fn no_witness_of_same_or_other_root(rt: HostRuntime) {
+    check_no_witness(&rt, 0, b"a", b"a");
+    check_no_witness(&rt, 0, b"", b"");
+    check_no_witness(&rt, 1, b"abcdefghi", b"abcdefghi");
+    check_no_witness(&rt, 64, b"abcdefghi", b"abcdefghi");
+    check_no_witness(&rt, 64, b"abcdefghi", b"abcdefghj");
+    check_no_witness(&rt, 64, b"abcd", b"abcde");
+    check_no_witness(&rt, 64, b"", b"\0");
+    check_no_witness(&rt, 16, b"abcdefgh", b"abcdEfgh");
 }
 
 // Two of 257 messages have one root of one byte.
 #[test]
-fn witness_of_a_found_pair(rt: HostRuntime) {
+fn witness_of_equal_1_byte_roots(rt: HostRuntime) {
     let mut pair = None;
     for i in 0..257u16 {
         let a = i.to_be_bytes();
