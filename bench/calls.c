@@ -30,9 +30,9 @@ static const int repetitions[TASKS] = {4096, 1024, 2, 512, 512, 512, 512};
 
 extern double best[2][TASKS][LIBRARIES];
 extern uint8_t data[1 << 16], out[64];
-void turn_of_names(void);
+void time_calls_by_names(void);
 
-static double clock_now(void) {
+static double nanoseconds_now(void) {
     struct timespec t;
     clock_gettime(CLOCK_MONOTONIC, &t);
     return t.tv_sec * 1e9 + t.tv_nsec;
@@ -41,12 +41,12 @@ static double clock_now(void) {
 /* Times the call, whose answer is of no use here, and keeps the best. */
 #define TIME(family, task, library, call)                                       \
     do {                                                                        \
-        double begun = clock_now();                                                   \
+        double begun = nanoseconds_now();                                                   \
         for (int i = 0; i < repetitions[task]; i++) {                           \
             int answer = call;                                                  \
             __asm__ volatile("" ::"r"(answer) : "memory");                      \
         }                                                                       \
-        double each = (clock_now() - begun) / repetitions[task];                      \
+        double each = (nanoseconds_now() - begun) / repetitions[task];                      \
         double *kept = &best[family][task][library];                            \
         if (*kept == 0 || each < *kept) *kept = each;                           \
     } while (0)
@@ -66,7 +66,7 @@ static double clock_now(void) {
     } while (0)
 
 #ifdef BY_NAMES
-void turn_of_names(void) {
+void time_calls_by_names(void) {
     static blake2b_state b;
     static blake2s_state s;
     TURN(0, NAMES, b, 64, blake2b);
@@ -80,7 +80,7 @@ static const char *const titles[TASKS] = {
 double best[2][TASKS][LIBRARIES];
 uint8_t data[1 << 16], out[64];
 
-static void turn_of_ours(void) {
+static void time_our_calls(void) {
     static vulfsjor_blake2b_state b;
     static vulfsjor_blake2s_state s;
     TURN(0, OURS, b, 64, vulfsjor_blake2b);
@@ -92,7 +92,7 @@ static void turn_of_ours(void) {
 }
 
 #ifdef WITH_LIBB2
-static void turn_of_libb2(void) {
+static void time_libb2_calls(void) {
     static blake2b_state b;
     static blake2s_state s;
     TURN(0, LIBB2, b, 64, blake2b);
@@ -102,7 +102,7 @@ static void turn_of_libb2(void) {
 
 #ifdef WITH_OPENSSL
 /* OpenSSL takes no key here; its algorithms are looked up once, and a context is used again. */
-static void turn_of_evp(int family, EVP_MD_CTX *context, const EVP_MD *algorithm) {
+static void time_evp_calls(int family, EVP_MD_CTX *context, const EVP_MD *algorithm) {
     EVP_DigestInit_ex(context, algorithm, NULL);
     TIME(family, UPDATE_1, EVP, EVP_DigestUpdate(context, data + i % 64, 1));
     TIME(family, UPDATE_64, EVP, EVP_DigestUpdate(context, data + i % 64 * 64, 64));
@@ -137,15 +137,15 @@ int main(int argc, char **argv) {
                                    EVP_MD_fetch(NULL, "BLAKE2S-256", NULL)};
 #endif
     for (int turn = 0; turn < turns; turn++) {
-        turn_of_ours();
+        time_our_calls();
 #ifdef WITH_NAMES
-        turn_of_names();
+        time_calls_by_names();
 #endif
 #ifdef WITH_LIBB2
-        turn_of_libb2();
+        time_libb2_calls();
 #endif
 #ifdef WITH_OPENSSL
-        for (int family = 0; family < 2; family++) turn_of_evp(family, context, algorithms[family]);
+        for (int family = 0; family < 2; family++) time_evp_calls(family, context, algorithms[family]);
 #endif
     }
     print_table(0, "BLAKE2b-512");

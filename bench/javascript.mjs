@@ -58,12 +58,12 @@ const CALLS = {
 const BUNDLES = ["blake2b", "blake2s", "Blake2b", "blake2bStream", "treeRoot"];
 
 const row = (cells) => `| ${cells.join(" | ")} |\n`;
-const head = (titles) => row(titles) + row(titles.map(() => "---"));
-const load = () => `\n(Load ${loadavg()[0].toFixed(1)} in the last minute of this.)\n`;
-const rate = (length, microseconds) => `${(length / microseconds / 1000).toFixed(2)} GB/s`;
+const tableHead = (titles) => row(titles) + row(titles.map(() => "---"));
+const loadLine = () => `\n(Load ${loadavg()[0].toFixed(1)} in the last minute of this.)\n`;
+const speedText = (length, microseconds) => `${(length / microseconds / 1000).toFixed(2)} GB/s`;
 
 // The microseconds of processor time per call.
-function timeOf(call, count) {
+function timePerCall(call, count) {
   const { user, system } = process.cpuUsage();
   for (let i = 0; i < count; i++) call();
   const spent = process.cpuUsage({ user, system });
@@ -72,11 +72,11 @@ function timeOf(call, count) {
 
 // The best times of pairs of calls with their counts. All run in each turn, so that none is measured
 // while only it is compiled.
-function bestOf(pairs, turns) {
+function bestTimes(pairs, turns) {
   const best = pairs.map(() => [Infinity, Infinity]);
   for (let turn = 0; turn < turns; turn++) {
     for (const [row, [calls, count]] of pairs.entries()) {
-      calls.forEach((call, i) => (best[row][i] = Math.min(best[row][i], timeOf(call, count))));
+      calls.forEach((call, i) => (best[row][i] = Math.min(best[row][i], timePerCall(call, count))));
     }
   }
   return best;
@@ -84,7 +84,7 @@ function bestOf(pairs, turns) {
 
 /** The row of a hash, from both microseconds: the last cell is our speed divided by theirs. */
 export function hashRow(name, length, [ours, theirs]) {
-  const shown = (us) => (length < 65536 ? `${(1000 * us).toFixed(0)} ns` : rate(length, us));
+  const shown = (us) => (length < 65536 ? `${(1000 * us).toFixed(0)} ns` : speedText(length, us));
   return row([name, length, shown(ours), shown(theirs), (theirs / ours).toFixed(2)]);
 }
 
@@ -95,13 +95,13 @@ export function callRow(name, [ours, theirs]) {
 }
 
 function callsTable(turns) {
-  const best = bestOf(Object.values(CALLS).map((calls) => [calls, 2000]), turns);
-  return head(["call with 64 bytes", "vulfsjor", "node:crypto", "ratio of speed"]) +
-    Object.keys(CALLS).map((name, i) => callRow(name, best[i])).join("") + load();
+  const best = bestTimes(Object.values(CALLS).map((calls) => [calls, 2000]), turns);
+  return tableHead(["call with 64 bytes", "vulfsjor", "node:crypto", "ratio of speed"]) +
+    Object.keys(CALLS).map((name, i) => callRow(name, best[i])).join("") + loadLine();
 }
 
 /** The bytes of a bundle by esbuild, minified, of a program that imports only these names. */
-export function bundleOf(names, folder) {
+export function buildBundle(names, folder) {
   for (const part of ["package.json", "index.js", "src"]) {
     const from = fileURLToPath(new URL(`../js/${part}`, import.meta.url));
     cpSync(from, join(folder, "node_modules/vulfsjor", part), { recursive: true });
@@ -119,8 +119,8 @@ export function bundleOf(names, folder) {
 function bundlesTable() {
   const folder = mkdtempSync(join(tmpdir(), "vulfsjor-"));
   try {
-    return head(["bundle of", "bytes", "gzip"]) + BUNDLES.map((name) => {
-      const bytes = bundleOf(name, folder);
+    return tableHead(["bundle of", "bytes", "gzip"]) + BUNDLES.map((name) => {
+      const bytes = buildBundle(name, folder);
       return row([`\`${name}\``, bytes.length, gzipSync(bytes, { level: 9 }).length]);
     }).join("");
   } finally {
@@ -134,21 +134,21 @@ function hashesTable(turns) {
     const count = Math.max(1, Math.ceil(2 ** 20 / (length + 512)));
     return { name, length, calls: [hashes.map((hash) => () => hash(message)), count] };
   }));
-  const best = bestOf(rows.map(({ calls }) => calls), turns);
-  return head(["hash", "bytes", "vulfsjor", "node:crypto", "ratio of speed"]) +
-    rows.map(({ name, length }, i) => hashRow(name, length, best[i])).join("") + load();
+  const best = bestTimes(rows.map(({ calls }) => calls), turns);
+  return tableHead(["hash", "bytes", "vulfsjor", "node:crypto", "ratio of speed"]) +
+    rows.map(({ name, length }, i) => hashRow(name, length, best[i])).join("") + loadLine();
 }
 
 /** The row of a root, from the milliseconds by one thread and by workers: each with its speedup. */
 export function rootRow(mebibytes, [one, ...others]) {
-  const speed = (milliseconds) => rate(2 ** 20 * mebibytes, 1000 * milliseconds);
+  const speed = (milliseconds) => speedText(2 ** 20 * mebibytes, 1000 * milliseconds);
   const cells = others.flatMap((other) => [speed(other), (one / other).toFixed(2)]);
   return row([`${mebibytes} MiB`, speed(one), ...cells]);
 }
 
 async function threadsTable(turns) {
   const titles = THREADS.slice(1).flatMap((count) => [`${count} workers`, "ratio of speed"]);
-  let text = head(["tree root of", "one thread", ...titles]);
+  let text = tableHead(["tree root of", "one thread", ...titles]);
   const part = randomBytes(2 ** 20 * MEBIBYTES[0]);
   const folder = mkdtempSync(join(tmpdir(), "vulfsjor-"));
   for (const mebibytes of MEBIBYTES) {
@@ -168,7 +168,7 @@ async function threadsTable(turns) {
     text += rootRow(mebibytes, best);
   }
   rmSync(folder, { recursive: true });
-  return text + load();
+  return text + loadLine();
 }
 
 async function main(words) {

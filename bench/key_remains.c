@@ -12,17 +12,17 @@
 
 #include <stdlib.h>
 
-static int plain_salt(void) {
+static int init_with_salt(void) {
     return BLAKE(init_salt_personal)(&state, MAX, key, MAX, NULL, 0, NULL, 0);
 }
 
-static int plain_tree(void) {
+static int init_with_tree(void) {
     return BLAKE(init_tree)(&state, MAX, key, MAX, NULL, 0, NULL, 0, &tree);
 }
 
 static int call_verify(void) { return BLAKE(verify)(&state, tag, MAX); }
 
-static void start_plain(void) {
+static void start_without_key(void) {
     CHECK(!BLAKE(init)(&state, MAX) && !BLAKE(update)(&state, message, 1));
 }
 
@@ -32,18 +32,18 @@ static const struct {
     void (*before)(void);
     size_t length;
 } ROWS[] = {
-    {"a hash in one call", call_one_call, nothing, 64},
-    {"`.._init_salt_personal`", plain_salt, nothing, 64},
-    {"`.._init_key`", call_init_key, nothing, 64},
-    {"`.._init_tree`", plain_tree, nothing, 64},
-    {"`.._many`, one message", call_many_one, nothing, 64},
-    {"`.._many`, 4 messages", call_many_four, nothing, 64},
-    {"`.._many`, 8 messages", call_many_lanes, nothing, 64},
-    {"the first `.._update`, of 64 bytes", call_update, start_keyed, 64},
-    {"the first `.._update`, of 1,000 bytes", call_update, start_keyed, 1000},
-    {"`.._final` of an empty message", call_final, start_keyed, 0},
-    {"`.._verify` of an empty message", call_verify, start_keyed, 0},
-    {"an update of one byte without a key", call_update, start_plain, 1},
+    {"a hash in one call", call_one_call, do_nothing, 64},
+    {"`.._init_salt_personal`", init_with_salt, do_nothing, 64},
+    {"`.._init_key`", call_init_key, do_nothing, 64},
+    {"`.._init_tree`", init_with_tree, do_nothing, 64},
+    {"`.._many`, one message", call_many_one, do_nothing, 64},
+    {"`.._many`, 4 messages", call_many_four, do_nothing, 64},
+    {"`.._many`, 8 messages", call_many_lanes, do_nothing, 64},
+    {"the first `.._update`, of 64 bytes", call_update, init_keyed_state, 64},
+    {"the first `.._update`, of 1,000 bytes", call_update, init_keyed_state, 1000},
+    {"`.._final` of an empty message", call_final, init_keyed_state, 0},
+    {"`.._verify` of an empty message", call_verify, init_keyed_state, 0},
+    {"an update of one byte without a key", call_update, start_without_key, 1},
 };
 
 /* The call of a row, whose instructions are counted. */
@@ -55,12 +55,12 @@ static __attribute__((noinline)) int counted(int (*call)(void)) {
 }
 
 /* The larger of a number and the most pieces that a call leaves. */
-static int more_pieces(int most, int (*call)(void)) {
+static int most_key_pieces(int most, int (*call)(void)) {
     for (size_t bytes = 0; bytes <= LONGEST; bytes++) {
         int found;
 
-        take_length(bytes);
-        found = pieces_after(nothing, call);
+        set_message_length(bytes);
+        found = count_key_pieces_after_call(do_nothing, call);
         if (found > most) most = found;
     }
     return most;
@@ -70,21 +70,21 @@ int main(int count, char **words) {
     for (size_t i = 0; i < MAX; i++) key[i] = (uint8_t)(0xA5 ^ (i * 37) ^ (i * i));
     for (size_t i = 0; i < LONGEST; i++) message[i] = (uint8_t)(i * 11 + 3 + (i >> 4) * 5);
     if (count > 1 && !strcmp(words[1], "most")) {
-        int many = more_pieces(more_pieces(0, call_many_one), call_many_four);
+        int many = most_key_pieces(most_key_pieces(0, call_many_one), call_many_four);
 
-        many = more_pieces(more_pieces(many, call_many_lanes), call_many_more);
-        printf("%d, %d\n", more_pieces(0, call_one_call), many);
+        many = most_key_pieces(most_key_pieces(many, call_many_lanes), call_many_more);
+        printf("%d, %d\n", most_key_pieces(0, call_one_call), many);
     } else if (count > 1) {
         size_t row = (size_t)atoi(words[1]);
 
-        take_length(ROWS[row].length);
+        set_message_length(ROWS[row].length);
         ROWS[row].before();
         CHECK(!counted(ROWS[row].call));
     } else {
         for (size_t row = 0; row < sizeof ROWS / sizeof *ROWS; row++) {
-            take_length(ROWS[row].length);
+            set_message_length(ROWS[row].length);
             printf("%zu|%s|%d\n", row, ROWS[row].name,
-                   pieces_after(ROWS[row].before, ROWS[row].call));
+                   count_key_pieces_after_call(ROWS[row].before, ROWS[row].call));
         }
     }
     return fails != 0;

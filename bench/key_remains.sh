@@ -20,7 +20,7 @@ for text in x86_64/vulfsjor-v{2,3}.s; do
 done
 
 # The program of a family, for a level, without the zeros or with them: FAMILY LEVEL FROM.
-build() {
+build_measuring_program() {
     local words=(-std=gnu99 -O2 -Wl,-z,now)
     [ "$1" = b ] || words+=(-DTEST_S)
     "$top/c/install.sh" --cpu "x86-64-$2" --from "$3" "$work/installed" >/dev/null
@@ -29,7 +29,7 @@ build() {
 }
 
 # Prints for each call: its number, its name, its pieces and its instructions.
-measure() {
+measure_each_call() {
     local number name pieces
     "$work/key_remains" | while IFS='|' read -r number name pieces; do
         rm -f "$work"/count*
@@ -42,8 +42,8 @@ measure() {
 for family in b s; do
     for level in v3 v2; do
         for from in "$work/dist" "$top/dist"; do
-            build $family $level "$from"
-            measure >"$work/$family-$level-$([ "$from" = "$work/dist" ] && echo without || echo with)"
+            build_measuring_program $family $level "$from"
+            measure_each_call >"$work/$family-$level-$([ "$from" = "$work/dist" ] && echo without || echo with)"
             [ "$from" = "$top/dist" ] || echo "BLAKE2$family, $level, most pieces without the zeros," \
                 "a hash in one call and .._many: $("$work/key_remains" most)" >&2
         done

@@ -24,7 +24,7 @@ STYLES = {
 }
 
 
-def length_text(length, _):
+def short_length_text(length, _):
     """The text of a length in bytes: 64, 1 Ki, 1 Mi."""
     units = [(1 << 20, " Mi"), (1 << 10, " Ki"), (1, "")]
     return next((f"{length / unit:g}{text}" for unit, text in units if length >= unit), f"{length:g}")
@@ -41,7 +41,7 @@ def main():
                           linewidth=width, label=name.replace("`", ""))
         axis.set(title=title, xlabel=sys.argv[1], ylabel="GB/s", ylim=(0, None))
         axis.set_xscale("log", base=2)
-        axis.xaxis.set_major_formatter(length_text)
+        axis.xaxis.set_major_formatter(short_length_text)
         axis.grid(True)
     figure.legend(*axes[0].get_legend_handles_labels(), loc="lower center", ncols=3)
     figure.tight_layout(rect=(0, 0.12, 1, 1))

@@ -13,13 +13,13 @@
 #include <string.h>
 #include <time.h>
 
-typedef void hash(const uint8_t *message, size_t length, uint8_t *digest);
+typedef void hash_function(const uint8_t *message, size_t length, uint8_t *digest);
 
-static void ours_b(const uint8_t *message, size_t length, uint8_t *digest) {
+static void our_blake2b(const uint8_t *message, size_t length, uint8_t *digest) {
     if (vulfsjor_blake2b(digest, 64, message, length, NULL, 0)) abort();
 }
 
-static void ours_s(const uint8_t *message, size_t length, uint8_t *digest) {
+static void our_blake2s(const uint8_t *message, size_t length, uint8_t *digest) {
     if (vulfsjor_blake2s(digest, 32, message, length, NULL, 0)) abort();
 }
 
@@ -37,7 +37,7 @@ void sodium_memzero(void *bytes, size_t length) {
     while (length--) *place++ = 0;
 }
 
-static void sodium_b(const uint8_t *message, size_t length, uint8_t *digest) {
+static void sodium_blake2b(const uint8_t *message, size_t length, uint8_t *digest) {
     if (crypto_generichash_blake2b__blake2b(digest, message, NULL, 64, length, 0)) abort();
 }
 #endif
@@ -51,7 +51,7 @@ static double processor_seconds(void) {
 static uint8_t message[1 << 20];
 
 /* The seconds for the hashes of this many bytes in messages of a length. */
-static double measure(hash *f, size_t length, size_t total) {
+static double seconds_for_hashes(hash_function *f, size_t length, size_t total) {
     uint8_t digest[64];
     double begin = processor_seconds();
     for (size_t done = 0; done < total; done += length) {
@@ -61,7 +61,7 @@ static double measure(hash *f, size_t length, size_t total) {
     return processor_seconds() - begin;
 }
 
-static void compare_functions(const char *family, size_t length, size_t total, hash *functions[3]) {
+static void compare_functions(const char *family, size_t length, size_t total, hash_function *functions[3]) {
     static const char *const names[3] = {"ours", "plain", "sodium"};
     uint8_t digests[3][64] = {{0}};
     double best[3] = {1e9, 1e9, 1e9};
@@ -73,7 +73,7 @@ static void compare_functions(const char *family, size_t length, size_t total, h
     }
     for (int turn = 0; turn < 7; turn++)
         for (int k = 0; k < 3; k++) {
-            double time = functions[k] ? measure(functions[k], length, total) : 1e9;
+            double time = functions[k] ? seconds_for_hashes(functions[k], length, total) : 1e9;
             if (time < best[k]) best[k] = time;
         }
     for (int k = 0; k < 3; k++) {
@@ -86,10 +86,10 @@ static void compare_functions(const char *family, size_t length, size_t total, h
 
 int main(int count, char **words) {
     size_t total = (count > 1 ? strtoul(words[1], NULL, 10) : 64) << 20;
-    hash *wide[3] = {ours_b, plain_blake2b512, NULL}, *narrow[3] = {ours_s, plain_blake2s256, NULL};
+    hash_function *wide[3] = {our_blake2b, plain_blake2b512, NULL}, *narrow[3] = {our_blake2s, plain_blake2s256, NULL};
 
 #ifdef SODIUM
-    wide[2] = sodium_b;
+    wide[2] = sodium_blake2b;
 #endif
     compare_functions("b", 1 << 20, total, wide);
     compare_functions("s", 1 << 20, total, narrow);

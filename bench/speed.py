@@ -43,7 +43,7 @@ TOP = os.path.dirname(os.path.dirname(os.path.abspath(__file__)))
 sys.path.insert(0, os.path.join(TOP, "tests"))
 import b2_model  # noqa: E402
 from common import Parser, at_least  # noqa: E402
-from oracle import SCALAR, parallel_by_hashlib, tree_root  # noqa: E402
+from oracle import SCALAR, parallel_digest_by_hashlib, tree_root  # noqa: E402
 
 RESULTS = os.path.join(TOP, "bench", "results")
 PICTURE = os.path.join(TOP, "docs", "speed.svg")
@@ -72,7 +72,7 @@ DEBIAN_CRATES = ["--config", 'source.crates-io.replace-with="debian"',
                  "--config", 'source.debian.directory="/usr/share/cargo/registry"']
 
 
-class Timed(NamedTuple):
+class TimedFunction(NamedTuple):
     """A hash function that is timed."""
     word: str  # of b2
     algorithm: str  # its family's name in hashlib
@@ -80,15 +80,16 @@ class Timed(NamedTuple):
     function: str  # its name in C, and of openssl
 
 
-TIMED = (Timed("b512", "blake2b", "BLAKE2b-512", "blake2b512"), Timed("s256", "blake2s", "BLAKE2s-256", "blake2s256"))
-PARALLEL = (Timed("bp512", "blake2bp", "BLAKE2bp-512", "blake2bp512"),
-            Timed("sp256", "blake2sp", "BLAKE2sp-256", "blake2sp256"))
+TIMED = (TimedFunction("b512", "blake2b", "BLAKE2b-512", "blake2b512"),
+         TimedFunction("s256", "blake2s", "BLAKE2s-256", "blake2s256"))
+PARALLEL = (TimedFunction("bp512", "blake2bp", "BLAKE2bp-512", "blake2bp512"),
+            TimedFunction("sp256", "blake2sp", "BLAKE2sp-256", "blake2sp256"))
 OUTPUTS = (("b", "BLAKE2Xb"), ("s", "BLAKE2Xs"))
 CRATES = "blake2b/s_simd"  # the peers whose functions use one thread
 
 
 @dataclass
-class Column:
+class ResultColumn:
     """A column of a table: the best time of each candidate by its name, its text, and the name and the time of
     the candidate that ratios are to. If it is left out, it is the fastest that is not this project's."""
     title: str
@@ -118,14 +119,15 @@ def run_quietly(command, folder=TOP):
 
 # What is built.
 
-def text_of(name, cpu):
+def assembly_text_path(name, cpu):
     """The path of the assembly text of dist/ with this name for the processor."""
     return os.path.join(TOP, "dist", "x86_64", f"{name}-{cpu.removeprefix('x86-64-')}.s")
 
 
-def program_of(cpu):
+def link_program_for_cpu(cpu):
     """The program b2 with the library's build for the processor, linked from dist/."""
-    texts = [os.path.join(TOP, "dist", "x86_64", "b2.s"), *(text_of("vulfsjor", level) for level in ("v2", "v3", "v4"))]
+    texts = [os.path.join(TOP, "dist", "x86_64", "b2.s"),
+             *(assembly_text_path("vulfsjor", level) for level in ("v2", "v3", "v4"))]
     with open(texts[0]) as text:
         main = re.search(r"^\tvj_export\t(main\w*)$", text.read(), re.MULTILINE)[1]
     assembly = os.path.join(OUT, "b2.S")
@@ -142,10 +144,11 @@ def program_of(cpu):
 
 
 @functools.cache
-def library_of(cpu):
+def link_library_for_cpu(cpu):
     """The shared library over vulfsjor for the processor, linked from dist/."""
     folder = os.path.join(OUT, cpu)
-    good, output = run_quietly([os.path.join(TOP, "c", "make_libraries.sh"), folder, text_of("vulfsjor", cpu)])
+    good, output = run_quietly([os.path.join(TOP, "c", "make_libraries.sh"), folder,
+                                assembly_text_path("vulfsjor", cpu)])
     if not good:
         sys.exit("speed: vulfsjor was not linked: " + output)
     sources = [os.path.join(PEERS, name) for name in ("ours.c", "several.c", "vulfsjor_tree.c", "xof.c")]
@@ -160,7 +163,7 @@ def compile_program(name, words):
 
 
 def compile_shared_library(name, words):
-    """Compiles C to a shared library, as `compiled` does."""
+    """Compiles C to a shared library, as `compile_program` does."""
     return compile_program(name, ["-shared", "-fPIC"] + words)
 
 
@@ -176,7 +179,7 @@ def build_libb2():
 
 
 @functools.cache
-def blake2_simd():
+def build_blake2_simd():
     """The program and the shared library over the Rust crates; None for each if they are absent."""
     folder = os.path.join(OUT, "simd")
     shutil.copytree(os.path.join(PEERS, "simd"), folder, dirs_exist_ok=True)
@@ -218,7 +221,7 @@ def peer_versions():
                                    ("Go", ["go", "version"], r"^go version go(\S+)")):
         match = re.search(pattern, run_quietly(command)[1], re.MULTILINE)
         found += [f"{name} {match[1]}"] if match else []
-    if blake2_simd()[0]:
+    if build_blake2_simd()[0]:
         with open(os.path.join(OUT, "simd", "Cargo.lock")) as file:
             crates = re.findall(r'name = "(blake2._simd)"\nversion = "(.*)"', file.read())
         rust = re.search(r"^rustc (\S+)", run_quietly(["rustc", "--version"])[1], re.MULTILINE)
@@ -231,7 +234,7 @@ def peer_versions():
 
 # What is timed.
 
-def best_of(turns, timers):
+def best_time_of_each(turns, timers):
     """The best time of each candidate, where each is timed once in every turn."""
     best = {}
     for _ in range(turns):
@@ -241,13 +244,13 @@ def best_of(turns, timers):
     return best
 
 
-def median_of_places(turns, loops, others=None):
+def median_over_stack_places(turns, loops, others=None):
     """The time of each loop, whose best is taken at each place of the stack, and then the median of these; and the best
     time by each of the other timers. The turns are shared by the places."""
     timers = {(name, place): loop_timer(functools.partial(loop, place=place))
               for name, loop in loops.items() for place in PLACES}
     timers |= {(name, PLACES[0]): timer for name, timer in (others or {}).items()}
-    best = best_of(-(-turns // len(PLACES)), timers)
+    best = best_time_of_each(-(-turns // len(PLACES)), timers)
     return {name: statistics.median(taken for (which, _), taken in best.items() if which == name)
             for name in dict.fromkeys(name for name, _ in timers)}
 
@@ -256,13 +259,13 @@ def programs_to_time():
     """The programs to time by their names: functions from a kind to the command, or None."""
     found = {}
     for cpu in CPUS:
-        b2 = program_of(cpu)
+        b2 = link_program_for_cpu(cpu)
         found[f"ours: `b2 sum`, {cpu}"] = lambda kind, b2=b2: [b2, "sum", kind.word]
     if shutil.which("b2sum"):
         found["`b2sum`"] = lambda kind: ["b2sum"] if kind.word == "b512" else None
     if shutil.which("openssl"):
         found["`openssl dgst`"] = lambda kind: ["openssl", "dgst", "-" + kind.function]
-    for name, (program, _) in (("libb2", build_libb2()), ("blake2b/s_simd", blake2_simd())):
+    for name, (program, _) in (("libb2", build_libb2()), ("blake2b/s_simd", build_blake2_simd())):
         if program:
             found[name] = lambda kind, program=program: [program, kind.word]
     return found
@@ -312,13 +315,13 @@ def file_digest_timer(kind, file):
     return timer
 
 
-def functions_of(path, prefix=""):
+def library_functions_by_kind(path, prefix=""):
     """The functions of a shared library by their kinds' words."""
     library = ctypes.CDLL(path)
     return {kind.word: getattr(library, prefix + kind.function) for kind in TIMED}
 
 
-def addresses_in(path):
+def function_addresses_in_module(path):
     """The addresses of the functions of a module that this Python has loaded, by their names."""
     with open("/proc/self/maps") as maps:
         base = min(int(line.split("-")[0], 16) for line in maps if line.rstrip().endswith(path))
@@ -326,10 +329,10 @@ def addresses_in(path):
     return {entry[2]: base + int(entry[0], 16) for entry in entries if len(entry) == 3}
 
 
-def functions_of_hashlib():
+def hashlib_functions_by_kind():
     """hashlib's own C functions by their kinds' words; None if this Python does not show them."""
     import _blake2
-    addresses = addresses_in(_blake2.__file__) if hasattr(_blake2, "__file__") else {}
+    addresses = function_addresses_in_module(_blake2.__file__) if hasattr(_blake2, "__file__") else {}
     if "PyBlake2_blake2b" not in addresses or "PyBlake2_blake2s" not in addresses:
         report_progress("hashlib's C functions are not to be found in this Python")
         return None
@@ -337,19 +340,19 @@ def functions_of_hashlib():
     library = ctypes.CDLL(path)
     for name in ("blake2b", "blake2s"):
         ctypes.c_void_p.in_dll(library, "python_" + name).value = addresses["PyBlake2_" + name]
-    return functions_of(path)
+    return library_functions_by_kind(path)
 
 
 def functions_in_memory():
     """The functions to time in memory, by the names of their libraries and their kinds' words."""
     found = {}
     for cpu in CPUS:
-        found[f"ours: `vulfsjor`, {cpu}"] = functions_of(library_of(cpu), "ours_")
-    for name, path in (("libb2", build_libb2()[1]), ("blake2b/s_simd", blake2_simd()[1]),
+        found[f"ours: `vulfsjor`, {cpu}"] = library_functions_by_kind(link_library_for_cpu(cpu), "ours_")
+    for name, path in (("libb2", build_libb2()[1]), ("blake2b/s_simd", build_blake2_simd()[1]),
                        ("OpenSSL's EVP", build_openssl())):
         if path:
-            found[name] = functions_of(path)
-    inside = functions_of_hashlib()
+            found[name] = library_functions_by_kind(path)
+    inside = hashlib_functions_by_kind()
     if inside:
         found["hashlib's C functions"] = inside
     return found
@@ -376,7 +379,7 @@ def python_loop(kind, message):
 
 
 @functools.cache
-def clock_in_c():
+def load_c_clock():
     """The function in C that times a loop of digests."""
     path = compile_shared_library("clock.so", [os.path.join(PEERS, "clock.c")])
     if path is None:
@@ -388,25 +391,26 @@ def clock_in_c():
     return clock
 
 
-def through_python(kind, message):
+def python_timer(kind, message):
     """The timer of hashlib's digests of a message as a Python program gets them."""
     return {"hashlib through Python": loop_timer(python_loop(kind, message))}
 
 
-def checked_loop(name, function, data, length, wanted):
+def verified_c_loop(name, function, data, length, wanted):
     """The loop in C over a library's digests of the data's first bytes, once it is seen to write what is wanted."""
     first = ctypes.c_char.from_buffer(data)
     out = ctypes.create_string_buffer(max(64, len(wanted)))
 
     def loop(count, place=0):
-        return clock_in_c()(ctypes.cast(function, ctypes.c_void_p), ctypes.addressof(first), length, out, count, place)
+        return load_c_clock()(ctypes.cast(function, ctypes.c_void_p), ctypes.addressof(first), length, out, count,
+                              place)
     loop(1)
     if out.raw[:len(wanted)] != wanted:
         sys.exit(f"speed: {name} gave another digest of {length} bytes")
     return loop
 
 
-class Memory:
+class MemoryTimings:
     """What is timed in memory."""
 
     def __init__(self, turns, found, beside=lambda kind, message: {}):
@@ -415,23 +419,23 @@ class Memory:
         self.beside = beside  # from a kind and a message to more timers by their names
         self.measured = {}
 
-    def best(self, kind, length):
+    def best_time(self, kind, length):
         """The best time in nanoseconds of a digest of this number of bytes by each library, and through Python."""
         if (kind, length) not in self.measured:
-            self.measured[kind, length] = self.timed(kind, length)
+            self.measured[kind, length] = self.measure_times(kind, length)
         return self.measured[kind, length]
 
-    def timed(self, kind, length):
+    def measure_times(self, kind, length):
         """The same, timed now."""
         report_progress(f"timing libraries at {kind.title} of {length:,} bytes")
         message = mmap.mmap(-1, max(length, 1))
         message[:] = os.urandom(len(message))
         wanted = hashlib.new(kind.algorithm, message[:length]).digest()
-        loops = {name: checked_loop(name, found[kind.word], message, length, wanted)
+        loops = {name: verified_c_loop(name, found[kind.word], message, length, wanted)
                  for name, found in self.libraries.items()}
         in_a_table = length in SHORT_BYTES or length == IN_MEMORY_BYTES
         turns = self.turns * (MEMORY_TURNS if in_a_table else PLOT_TURNS)
-        return median_of_places(turns, loops, self.beside(kind, message[:length]))
+        return median_over_stack_places(turns, loops, self.beside(kind, message[:length]))
 
 
 # What is printed.
@@ -441,7 +445,7 @@ def speed_text(length):
     return lambda nanoseconds: f"{length / nanoseconds:.2f}"
 
 
-def row_text(cells):
+def markdown_row(cells):
     """A row of a Markdown table."""
     return "| " + " | ".join(cells) + " |\n"
 
@@ -452,18 +456,18 @@ def markdown_table(corner, columns, last=None):
     titles = [corner]
     for column in columns:
         titles += [column.title, f"ratio to {column.base[0]}"]
-    text = row_text(titles + ([title] if last else []))
-    text += row_text(["---"] * (len(titles) + bool(last)))
+    text = markdown_row(titles + ([title] if last else []))
+    text += markdown_row(["---"] * (len(titles) + bool(last)))
     for name in dict.fromkeys(name for column in columns for name in column.best):
         row = [name]
         for column in columns:
             taken = column.best.get(name)
             row += [column.text(taken), f"{column.base[1] / taken:.2f}"] if taken else ["", ""]
-        text += row_text(row + ([cells.get(name, "")] if last else []))
+        text += markdown_row(row + ([cells.get(name, "")] if last else []))
     return text
 
 
-def random_file(mebibytes):
+def random_temporary_file(mebibytes):
     """A file of this number of MiB of random bytes, without a name."""
     report_progress(f"writing a file of {mebibytes} MiB")
     file = tempfile.TemporaryFile()
@@ -473,10 +477,10 @@ def random_file(mebibytes):
     return file
 
 
-def long_table(options):
+def file_speed_table(options):
     """The table of programs over a file."""
     commands, columns, peaks = programs_to_time(), [], {}
-    with random_file(options.mebibytes) as file:
+    with random_temporary_file(options.mebibytes) as file:
         for kind in TIMED:
             report_progress(f"timing programs at {kind.title}")
             file.seek(0)
@@ -492,7 +496,7 @@ def long_table(options):
                 timers[name] = program_timer(command, file)
             timers["hashlib's `file_digest`"] = file_digest_timer(kind, file)
             text = speed_text(options.mebibytes << 20)
-            columns.append(Column(kind.title + ", GB/s", best_of(options.turns, timers), text))
+            columns.append(ResultColumn(kind.title + ", GB/s", best_time_of_each(options.turns, timers), text))
     peaks = {name: f"{peak:.1f}" for name, peak in peaks.items()}
     return markdown_table(f"{options.mebibytes} MiB from a file", columns, ("peak memory, MiB", peaks))
 
@@ -500,32 +504,32 @@ def long_table(options):
 def in_memory_table(memory):
     """The table of libraries over one long message in memory."""
     text = speed_text(IN_MEMORY_BYTES)
-    columns = [Column(kind.title + ", GB/s", memory.best(kind, IN_MEMORY_BYTES), text) for kind in TIMED]
+    columns = [ResultColumn(kind.title + ", GB/s", memory.best_time(kind, IN_MEMORY_BYTES), text) for kind in TIMED]
     return markdown_table("1 MiB in memory", columns)
 
 
-def short_table(kind, memory):
+def short_message_table(kind, memory):
     """The table of libraries over short messages in memory."""
-    columns = [Column(f"{length:,} bytes, ns", memory.best(kind, length), "{:.0f}".format)
+    columns = [ResultColumn(f"{length:,} bytes, ns", memory.best_time(kind, length), "{:.0f}".format)
                for length in SHORT_BYTES]
     return markdown_table(f"one {kind.title} digest", columns)
 
 
-def several_functions():
+def libraries_hashing_several():
     """The libraries with functions that write the digests of several messages, and the prefixes of these functions, by
     the names of the rows."""
     found = {}
     for cpu in CPUS:
-        found[f"ours: one after another, {cpu}"] = library_of(cpu), "each_"
-        found[f"ours: in parallel, {cpu}"] = library_of(cpu), "several_"
-    path = blake2_simd()[1]
+        found[f"ours: one after another, {cpu}"] = link_library_for_cpu(cpu), "each_"
+        found[f"ours: in parallel, {cpu}"] = link_library_for_cpu(cpu), "several_"
+    path = build_blake2_simd()[1]
     if path:
         found["blake2b/s_simd: one after another"] = path, "each_"
         found["blake2b/s_simd: `hash_many`"] = path, "several_"
     return found
 
 
-def several_table(kind, count, functions, turns):
+def several_messages_table(kind, count, functions, turns):
     """The table of this many messages in parallel."""
     function = kind.function if count == SEVERAL[kind.word] else f"{kind.function}_{count}"
     columns = []
@@ -534,49 +538,51 @@ def several_table(kind, count, functions, turns):
         messages = bytearray(os.urandom(count * length))
         wanted = b"".join(hashlib.new(kind.algorithm, messages[at:at + length]).digest()
                           for at in range(0, len(messages), length))
-        loops = {name: checked_loop(name, getattr(ctypes.CDLL(path), prefix + function), messages, len(messages),
+        loops = {name: verified_c_loop(name, getattr(ctypes.CDLL(path), prefix + function), messages, len(messages),
                                     wanted) for name, (path, prefix) in functions.items()}
-        best = median_of_places(turns * MEMORY_TURNS, loops)
-        columns.append(Column(f"{length:,} bytes, ns", best, "{:.0f}".format))
+        best = median_over_stack_places(turns * MEMORY_TURNS, loops)
+        columns.append(ResultColumn(f"{length:,} bytes, ns", best, "{:.0f}".format))
     return markdown_table(f"{count} messages of {kind.title}", columns)
 
 
-def parallel_table(kind, turns):
+def parallel_hash_table(kind, turns):
     """The table of BLAKE2bp or BLAKE2sp. libb2 starts a thread for each leaf, so its time is that of all of them by the
     clock; ratios are to the crates, which have one."""
-    found = {f"ours: `vulfsjor`, {cpu}": (library_of(cpu), "ours_") for cpu in CPUS}
+    found = {f"ours: `vulfsjor`, {cpu}": (link_library_for_cpu(cpu), "ours_") for cpu in CPUS}
     found |= {name: (path, "") for name, path in (("libb2, with its threads", build_libb2()[1]),
-                                                  (CRATES, blake2_simd()[1])) if path}
+                                                  (CRATES, build_blake2_simd()[1])) if path}
     columns = []
     for length in PARALLEL_BYTES:
         report_progress(f"timing {kind.title} of {length:,} bytes")
         message = bytearray(os.urandom(max(length, 1)))
-        wanted = parallel_by_hashlib(kind.word[0], bytes(message[:length]))
-        loops = {name: checked_loop(name, getattr(ctypes.CDLL(path), prefix + kind.function), message, length, wanted)
+        wanted = parallel_digest_by_hashlib(kind.word[0], bytes(message[:length]))
+        loops = {name: verified_c_loop(name, getattr(ctypes.CDLL(path), prefix + kind.function), message, length,
+                                       wanted)
                  for name, (path, prefix) in found.items()}
-        best = median_of_places(turns * MEMORY_TURNS, loops)
+        best = median_over_stack_places(turns * MEMORY_TURNS, loops)
         base = (CRATES, best[CRATES]) if CRATES in best else None
         if length < 1 << 16:
-            columns.append(Column(f"{length:,} bytes, ns", best, "{:.0f}".format, base))
+            columns.append(ResultColumn(f"{length:,} bytes, ns", best, "{:.0f}".format, base))
         else:
-            columns.append(Column(f"{length:,} bytes, GB/s", best, speed_text(length), base))
+            columns.append(ResultColumn(f"{length:,} bytes, GB/s", best, speed_text(length), base))
     return markdown_table(f"one {kind.title} digest", columns)
 
 
-def xof_table(turns):
+def xof_output_table(turns):
     """The table of outputs of BLAKE2X."""
-    found = {f"ours: {title}, {cpu}": (library_of(cpu), prefix) for cpu in CPUS
+    found = {f"ours: {title}, {cpu}": (link_library_for_cpu(cpu), prefix) for cpu in CPUS
              for prefix, title in (("each_", "one block after another"), ("whole_", "blocks in parallel"))}
     found |= {"golang.org/x/crypto": (build_golang(), "go_")} if build_golang() else {}
     message, columns = bytearray(os.urandom(64)), []
     for letter, title in OUTPUTS:
         report_progress(f"timing outputs of {title}")
         wanted = b2_model.output(SCALAR[letter], OUTPUT_BYTES, b2_model.Input(bytes(message)))
-        loops = {name: checked_loop(name, getattr(ctypes.CDLL(path), f"{prefix}blake2x{letter}"), message, len(message),
+        loops = {name: verified_c_loop(name, getattr(ctypes.CDLL(path), f"{prefix}blake2x{letter}"), message,
+                                       len(message),
                                     wanted) for name, (path, prefix) in found.items()}
-        best = median_of_places(turns * MEMORY_TURNS, loops)
+        best = median_over_stack_places(turns * MEMORY_TURNS, loops)
         base = next(iter(found))
-        columns.append(Column(title + ", GB/s", best, speed_text(OUTPUT_BYTES),
+        columns.append(ResultColumn(title + ", GB/s", best, speed_text(OUTPUT_BYTES),
                               None if build_golang() else (base, best[base])))
     return markdown_table(f"{OUTPUT_BYTES:,} bytes of output", columns)
 
@@ -585,10 +591,10 @@ def tree_functions():
     """The functions that write a digest of a message, by their names: roots of trees and single digests."""
     roots, single = {}, {}
     for cpu in CPUS:
-        found = ctypes.CDLL(library_of(cpu))
+        found = ctypes.CDLL(link_library_for_cpu(cpu))
         roots[f"ours: root, {cpu}"] = found
         single[f"ours: one stream, {cpu}"] = found.ours_blake2b512
-    path = blake2_simd()[1]
+    path = build_blake2_simd()[1]
     if path:
         roots["blake2b/s_simd: root by `hash_many`"] = ctypes.CDLL(path)
         single["blake2b/s_simd: one stream"] = ctypes.CDLL(path).blake2b512
@@ -597,15 +603,15 @@ def tree_functions():
 
 def tree_timer(name, function, message, wanted):
     """The timer of one call of a function in C over a message."""
-    loop = checked_loop(name, function, message, len(message), wanted)
+    loop = verified_c_loop(name, function, message, len(message), wanted)
     return lambda: loop(1)
 
 
-def tree_table(turns):
+def tree_root_table(turns):
     """The table of roots of trees of BLAKE2b next to one stream, over one message."""
     roots, single = tree_functions()
     columns = []
-    with random_file(TREE_MEBIBYTES) as file:
+    with random_temporary_file(TREE_MEBIBYTES) as file:
         file.seek(0)
         message = bytearray(file.read())
         digest = hashlib.blake2b(message).digest()
@@ -618,7 +624,8 @@ def tree_table(turns):
             for name, library in roots.items():
                 library.set_leaf(ctypes.c_size_t(leaf))
                 timers[name] = tree_timer(name, library.tree_blake2b512, message, root)
-            columns.append(Column(f"leaves of {leaf:,} bytes, GB/s", best_of(turns, timers), speed_text(len(message))))
+            columns.append(ResultColumn(f"leaves of {leaf:,} bytes, GB/s", best_time_of_each(turns, timers),
+                                        speed_text(len(message))))
     return markdown_table(f"{TREE_MEBIBYTES} MiB", columns)
 
 
@@ -639,14 +646,14 @@ def write_results(parts, name):
         file.write("\n".join(parts))
 
 
-def machine_text():
+def processor_and_cores():
     """The processor's name, and its cores."""
     with open("/proc/cpuinfo") as info:
         models = [line.split(":", 1)[1].strip() for line in info if line.startswith("model name")]
     return f"{os.cpu_count()} cores of {models[0] if models else 'an unknown processor'}"
 
 
-def with_load(part):
+def with_load_line(part):
     """A part, and the machine's load as it was finished."""
     return f"{part}\n(Load {os.getloadavg()[0]:.1f} in the last minute of this.)\n"
 
@@ -654,10 +661,10 @@ def with_load(part):
 def heading_text(options):
     """The machine, the versions of the peers, and how often each candidate is timed."""
     turns = f"best of {options.turns} over the file, of {options.turns * MEMORY_TURNS} in memory"
-    return f"{machine_text()}; {peer_versions()}; {turns}.\n"
+    return f"{processor_and_cores()}; {peer_versions()}; {turns}.\n"
 
 
-def options_of(text, mebibytes, turns, only=()):
+def parse_options(text, mebibytes, turns, only=()):
     """The options of the command line: the text says what the program does, and the numbers are the defaults."""
     parser = Parser(description=text.split("\n\n")[0])
     parser.add_argument("--mebibytes", type=at_least(1), default=mebibytes, help=f"the size of the file ({mebibytes})")
@@ -675,26 +682,26 @@ def parts_of(options):
     """The heading and the tables, each once it is measured; with --write the plot is drawn last."""
     yield heading_text(options)
     if options.only in (None, "long"):
-        yield with_load(long_table(options))
+        yield with_load_line(file_speed_table(options))
     if options.only in (None, "kernel", "short"):
-        memory = Memory(options.turns, functions_in_memory(), through_python)
+        memory = MemoryTimings(options.turns, functions_in_memory(), python_timer)
     if options.only in (None, "kernel"):
-        yield with_load(in_memory_table(memory))
+        yield with_load_line(in_memory_table(memory))
     if options.only in (None, "short"):
-        yield from (with_load(short_table(kind, memory)) for kind in TIMED)
+        yield from (with_load_line(short_message_table(kind, memory)) for kind in TIMED)
     if options.only in (None, "several"):
-        functions = several_functions()
-        yield from (with_load(several_table(kind, counts[kind.word], functions, options.turns))
+        functions = libraries_hashing_several()
+        yield from (with_load_line(several_messages_table(kind, counts[kind.word], functions, options.turns))
                     for kind in TIMED for counts in (SEVERAL, MORE) if kind.word in counts)
     if options.only in (None, "parallel"):
-        yield from (with_load(parallel_table(kind, options.turns)) for kind in PARALLEL)
+        yield from (with_load_line(parallel_hash_table(kind, options.turns)) for kind in PARALLEL)
     if options.only in (None, "xof"):
-        yield with_load(xof_table(options.turns))
+        yield with_load_line(xof_output_table(options.turns))
     if options.only in (None, "tree"):
-        yield with_load(tree_table(options.turns * TREE_TURNS))
+        yield with_load_line(tree_root_table(options.turns * TREE_TURNS))
     if options.write:
         with open(PICTURE, "w") as file:
-            file.write(svg_plot(PLOT_BYTES, "bytes of the message", lambda length: length, memory.best))
+            file.write(svg_plot(PLOT_BYTES, "bytes of the message", lambda length: length, memory.best_time))
 
 
 def run_benchmark(options, parts_of, name):
@@ -713,7 +720,7 @@ def run_benchmark(options, parts_of, name):
 
 
 def main():
-    options = options_of(__doc__, 512, 6, ("long", "kernel", "short", "several", "parallel", "xof", "tree"))
+    options = parse_options(__doc__, 512, 6, ("long", "kernel", "short", "several", "parallel", "xof", "tree"))
     if options.build and options.write:
         sys.exit("speed: --write needs all builds")
     if options.write and not run_quietly(["/usr/bin/python3", "-c", "import matplotlib"])[0]:

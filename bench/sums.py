@@ -36,7 +36,7 @@ MEDIUM_BYTES = 300_000
 
 
 @contextlib.contextmanager
-def processors(count):
+def limit_processors(count):
     """What is started meanwhile runs on this many processors."""
     allowed = os.sched_getaffinity(0)
     os.sched_setaffinity(0, sorted(allowed)[:count])
@@ -46,7 +46,7 @@ def processors(count):
 
 def time_run(folder, words, count):
     """The nanoseconds of a run in this folder, on this many processors: by the clock, and of the processors."""
-    with processors(count):
+    with limit_processors(count):
         start = time.perf_counter_ns()
         process = subprocess.Popen(words, cwd=folder, stdin=subprocess.DEVNULL, stdout=subprocess.DEVNULL)
         _, status, used = os.wait4(process.pid, 0)
@@ -67,7 +67,7 @@ def best_times(turns, runs):
     return best
 
 
-def commands(program):
+def commands_by_input(program):
     """The commands by what they read and by their names."""
     threads, unmapped = ["b3sum", "--num-threads"], ["b3sum", "--no-mmap"]
     sums = {"`b2sum` (ours)": ([program], 1), "`b2sum` of coreutils": ([PEER], 1)}
@@ -84,7 +84,7 @@ def commands(program):
     }
 
 
-def make_files(folder, start, count, size):
+def make_random_files(folder, start, count, size):
     """Makes so many files of random bytes. Returns their names."""
     names = [f"{start}{i}" for i in range(count)]
     for name in names:
@@ -94,7 +94,7 @@ def make_files(folder, start, count, size):
     return names
 
 
-def files_of_folders():
+def readable_files_below_folders():
     """The regular files below the folders that can be read, as far as half of what a command may have."""
     paths, room = [], os.sysconf("SC_ARG_MAX") // 2
     for top in FOLDERS:
@@ -107,16 +107,16 @@ def files_of_folders():
     return paths
 
 
-def workloads(folder, options):
+def named_workloads(folder, options):
     """What is read: for each its key, a title, and the names of the files, which are there until the next."""
-    large = make_files(folder, "large", 1, options.mebibytes << 20)
+    large = make_random_files(folder, "large", 1, options.mebibytes << 20)
     yield "one", f"a file of {options.mebibytes} MiB", large
-    yield "small", f"{options.files} files of 1,000 bytes", make_files(folder, "small", options.files, 1000)
-    medium = make_files(folder, "medium", max(options.files // 5, 1), MEDIUM_BYTES)
+    yield "small", f"{options.files} files of 1,000 bytes", make_random_files(folder, "small", options.files, 1000)
+    medium = make_random_files(folder, "medium", max(options.files // 5, 1), MEDIUM_BYTES)
     yield "medium", f"{len(medium)} files of 300 kB", medium
     for name in medium:
         os.remove(os.path.join(folder, name))
-    paths = files_of_folders()
+    paths = readable_files_below_folders()
     if paths:
         megabytes = round(sum(map(os.path.getsize, paths)) / 1e6)
         yield "folders", f"{len(paths)} files of {' and '.join(FOLDERS)}, {megabytes} MB", paths
@@ -130,8 +130,8 @@ def output_of(folder, words):
 
 def table_rows(program, folder, options):
     """The rows of the table."""
-    for what, title, names in workloads(folder, options):
-        found = commands(program)[what]
+    for what, title, names in named_workloads(folder, options):
+        found = commands_by_input(program)[what]
         if what != "tree" and output_of(folder, [program, *names]) != output_of(folder, [PEER, *names]):
             sys.exit("sums: the digests are not those of coreutils")
         best = best_times(options.turns, {
@@ -156,11 +156,11 @@ def main():
     if not options.program and not speed.run_quietly([os.path.join(TOP, "b2sum"), "--build", program])[0]:
         sys.exit("sums: ./b2sum --build failed")
     titles = ["read", "program", "ms", "ratio", "ms of the processor", "ratio"]
-    table = speed.row_text(titles) + speed.row_text(["---"] * len(titles))
+    table = speed.markdown_row(titles) + speed.markdown_row(["---"] * len(titles))
     with tempfile.TemporaryDirectory(dir="/dev/shm" if os.path.isdir("/dev/shm") else None) as folder:
-        table += "".join(map(speed.row_text, table_rows(program, folder, options)))
-    parts = [f"{speed.machine_text()}; best of {options.turns}, by the clock and of the processor.\n",
-             speed.with_load(table)]
+        table += "".join(map(speed.markdown_row, table_rows(program, folder, options)))
+    parts = [f"{speed.processor_and_cores()}; best of {options.turns}, by the clock and of the processor.\n",
+             speed.with_load_line(table)]
     print("\n".join(parts), flush=True)
     if options.write:
         speed.write_results(parts, "sums")

@@ -22,7 +22,7 @@ import sys
 import time
 
 import speed
-from speed import OUT, TOP, Column, report_progress
+from speed import OUT, TOP, ResultColumn, report_progress
 
 sys.path.insert(0, os.path.join(TOP, "tests"))
 from oracle import tree_root  # noqa: E402
@@ -32,7 +32,7 @@ LEAF = 65536
 SIZE = 64  # bytes of a root
 
 
-def function_of(library, name, *types):
+def root_function(library, name, *types):
     """The function of this name: from its arguments between the output and the leaf length to the root. One that
     starts no threads ignores their number."""
     function = getattr(library, name)
@@ -47,7 +47,7 @@ def function_of(library, name, *types):
     return root_of
 
 
-def installed_library():
+def installed_library_folder():
     """The folder where c/install.sh has put the library."""
     folder = os.path.join(OUT, "installed")
     good, output = speed.run_quietly([os.path.join(TOP, "c", "install.sh"), folder])
@@ -56,7 +56,7 @@ def installed_library():
     return folder
 
 
-def functions_of_library(folder):
+def root_functions_of_library(folder):
     """The functions over the library that is installed in this folder, by their names in C."""
     words = ["-I" + os.path.join(folder, "include"), os.path.join(TOP, "c", "threads.c"),
              os.path.join(folder, "lib", "libvulfsjor.a"), "-pthread"]
@@ -66,12 +66,12 @@ def functions_of_library(folder):
     one = ctypes.CDLL(os.path.join(folder, "lib", "libvulfsjor.so"))
     several = ctypes.CDLL(path)
     memory = [ctypes.c_void_p, ctypes.c_size_t]
-    return {"vulfsjor_tree_root": function_of(one, "vulfsjor_ffi_tree_root", *memory),
-            "vulfsjor_tree_root_threads": function_of(several, "vulfsjor_tree_root_threads", *memory),
-            "vulfsjor_tree_root_file": function_of(several, "vulfsjor_tree_root_file", ctypes.c_char_p)}
+    return {"vulfsjor_tree_root": root_function(one, "vulfsjor_ffi_tree_root", *memory),
+            "vulfsjor_tree_root_threads": root_function(several, "vulfsjor_tree_root_threads", *memory),
+            "vulfsjor_tree_root_file": root_function(several, "vulfsjor_tree_root_file", ctypes.c_char_p)}
 
 
-def clock_call(call, wanted=None):
+def call_timer(call, wanted=None):
     """A function that returns the nanoseconds of one call by the clock. Its result is compared first."""
     if wanted is not None and call() != wanted:
         sys.exit("threads: a root is not the one of hashlib")
@@ -83,16 +83,16 @@ def clock_call(call, wanted=None):
     return timer
 
 
-def first_word_printed(command, path=None):
+def first_word_of_output(command, path=None):
     """The first word that a program prints, with the file as its standard input if there is a path."""
     with open(path or os.devnull, "rb") as file:
         return subprocess.run(command, stdin=file, stdout=subprocess.PIPE, check=True, text=True).stdout.split()[0]
 
 
-def table(corner, length, best, base):
+def thread_table(corner, length, best, base):
     """The best times of the pairs of name and number of threads as a Markdown table, with ratios to one of them."""
     return speed.markdown_table(corner, [
-        Column(f"{threads} thread{'s' * (threads > 1)}, GB/s",
+        ResultColumn(f"{threads} thread{'s' * (threads > 1)}, GB/s",
                {name: taken for (name, n), taken in best.items() if n == threads},
                speed.speed_text(length), (base, best[base, 1])) for threads in THREADS])
 
@@ -101,15 +101,15 @@ def memory_table(found, message, wanted, turns):
     """The table of roots in memory."""
     place = (ctypes.addressof(ctypes.c_char.from_buffer(message)), len(message))
     one, several = found["vulfsjor_tree_root"], found["vulfsjor_tree_root_threads"]
-    timers = {("`vulfsjor_tree_root`", 1): clock_call(lambda: one(*place), wanted)}
+    timers = {("`vulfsjor_tree_root`", 1): call_timer(lambda: one(*place), wanted)}
     for threads in THREADS:
-        timers["`vulfsjor_tree_root_threads`", threads] = clock_call(
+        timers["`vulfsjor_tree_root_threads`", threads] = call_timer(
             functools.partial(several, *place, threads=threads), wanted)
-    return table(f"{len(message) >> 20} MiB in memory", len(message), speed.best_of(turns, timers),
+    return thread_table(f"{len(message) >> 20} MiB in memory", len(message), speed.best_time_of_each(turns, timers),
                  "`vulfsjor_tree_root`")
 
 
-def build_program(name):
+def build_dist_program(name):
     """The program of this name, built from dist/."""
     program = os.path.join(OUT, name)
     if not speed.run_quietly([os.path.join(TOP, name), "--build", program])[0]:
@@ -119,35 +119,35 @@ def build_program(name):
 
 def file_table(found, path, length, wanted, turns):
     """The table of roots and digests of a file."""
-    command = [build_program("b2"), "tree", "b512", str(LEAF)]
-    sums = [build_program("b2sum"), "--no-names", "--tree", str(LEAF), path, "--threads"]
-    timers = {("`b2 tree`", 1): clock_call(lambda: first_word_printed(command, path), wanted.hex())}
+    command = [build_dist_program("b2"), "tree", "b512", str(LEAF)]
+    sums = [build_dist_program("b2sum"), "--no-names", "--tree", str(LEAF), path, "--threads"]
+    timers = {("`b2 tree`", 1): call_timer(lambda: first_word_of_output(command, path), wanted.hex())}
     for threads in THREADS:
         by_threads = functools.partial(found["vulfsjor_tree_root_file"], os.fsencode(path), threads=threads)
-        timers["`vulfsjor_tree_root_file`", threads] = clock_call(by_threads, wanted)
+        timers["`vulfsjor_tree_root_file`", threads] = call_timer(by_threads, wanted)
         words = [*sums, str(threads)]
-        timers["`b2sum --tree`", threads] = clock_call(lambda words=words: first_word_printed(words), wanted.hex())
+        timers["`b2sum --tree`", threads] = call_timer(lambda words=words: first_word_of_output(words), wanted.hex())
         if shutil.which("b3sum"):
             words = ["b3sum", "--num-threads", str(threads), path]
-            timers["`b3sum`", threads] = clock_call(lambda words=words: first_word_printed(words))
+            timers["`b3sum`", threads] = call_timer(lambda words=words: first_word_of_output(words))
     if not shutil.which("b3sum"):
         report_progress("b3sum is absent")
     if shutil.which("b2sum"):
-        timers["`b2sum`", 1] = clock_call(lambda: first_word_printed(["b2sum", path]))
-    return table(f"a file of {length >> 20} MiB", length, speed.best_of(turns, timers), "`b2 tree`")
+        timers["`b2sum`", 1] = call_timer(lambda: first_word_of_output(["b2sum", path]))
+    return thread_table(f"a file of {length >> 20} MiB", length, speed.best_time_of_each(turns, timers), "`b2 tree`")
 
 
 def heading(options):
     """The machine, the versions of the peers, and how often each candidate is timed."""
     found = re.search(r"b3sum (\S+)", speed.run_quietly(["b3sum", "--version"])[1])
     peers = f"b3sum {found[1]}; " if found else ""
-    return f"{speed.machine_text()}; {peers}leaves of 64 KiB; best of {options.turns}, by the clock.\n"
+    return f"{speed.processor_and_cores()}; {peers}leaves of 64 KiB; best of {options.turns}, by the clock.\n"
 
 
 def parts_of(options):
     """The heading and the tables, each once it is measured."""
-    found = functions_of_library(installed_library())
-    with speed.random_file(options.mebibytes) as file:
+    found = root_functions_of_library(installed_library_folder())
+    with speed.random_temporary_file(options.mebibytes) as file:
         length = options.mebibytes << 20
         message = bytearray(length)
         file.seek(0)
@@ -155,13 +155,13 @@ def parts_of(options):
         report_progress("comparing with hashlib")
         wanted = tree_root(message, LEAF, SIZE)
         yield heading(options)
-        yield speed.with_load(memory_table(found, message, wanted, options.turns))
+        yield speed.with_load_line(memory_table(found, message, wanted, options.turns))
         path = f"/proc/{os.getpid()}/fd/{file.fileno()}"
-        yield speed.with_load(file_table(found, path, length, wanted, options.turns))
+        yield speed.with_load_line(file_table(found, path, length, wanted, options.turns))
 
 
 def main():
-    speed.run_benchmark(speed.options_of(__doc__, 1024, 10), parts_of, "threads")
+    speed.run_benchmark(speed.parse_options(__doc__, 1024, 10), parts_of, "threads")
 
 
 if __name__ == "__main__":

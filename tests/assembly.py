@@ -89,7 +89,7 @@ CHOOSE = """.macro vj_choose name, v2, v3, v4
 CODE = re.search(r'(?m)^#define CODE "(\d+)"$', read("c/choose.c"))[1]
 
 
-def functions_of_text(lines):
+def lines_by_function(lines):
     """The instructions and macros of each function, by its name."""
     found, own = {}, None
     for line in lines:
@@ -103,30 +103,30 @@ def functions_of_text(lines):
     return found
 
 
-class Text:
+class AssemblyText:
     """A file of dist/, and what is in it."""
 
     def __init__(self, name, build):
         self.text, self.name, self.build, self.end = read(f"dist/{name}"), name, build, f"{CODE}_{build}"
         self.is_library, self.is_sums = "/vulfsjor" in name, "/b2sum" in name
-        self.code, self.outside = functions_of_text(self.text.split("\n")), set(OUTSIDE.findall(self.text))
+        self.code, self.outside = lines_by_function(self.text.split("\n")), set(OUTSIDE.findall(self.text))
         # The functions of the library that hash for a program, or for both.
         self.hashing = sorted(HASHING + LANES * ("/b2." not in name) + (OUTPUTS[:1] if self.is_sums else OUTPUTS))
         self.called_hashing = {f"{it}_{self.end.replace('a64', 'arm')}" for it in self.hashing}
 
-    def after(self, macro):
+    def operands_of_macro(self, macro):
         """The operands of each line with a macro."""
         return re.findall(rf"(?m)^\t{macro}\t(.*)", self.text)
 
 
-def count_vectors(code):
+def count_vector_instructions(code):
     return sum(bool(VECTOR.search(line.split("//")[0].split("\t", 2)[-1])) for line in code)
 
 
-def check_text(it):
+def checks_of_any_assembly_text(it):
     """Whether each statement about a file holds, by its words."""
     text, code, end = it.text, it.code, it.end
-    exported, called = it.after("vj_export") + it.after("vj_shared"), set(CALL.findall(text))
+    exported, called = it.operands_of_macro("vj_export") + it.operands_of_macro("vj_shared"), set(CALL.findall(text))
     named = set(re.findall(r"[A-Za-z_][\w.]*", re.sub(f"{FUNCTION.pattern}|\tvj_end\t.*", "", text, flags=re.M)))
     labels = re.findall(r"(?m)^(\.L[^\t\n]*):$", text)
     words = set(re.findall(r"(?m)^\t(\.[^\t\n]*)", text))
@@ -148,12 +148,13 @@ def check_text(it):
         for body in code.values())
 
 
-def check_hashing(it):
+def claims_on_hashing_calls(it):
     """Whether the programs hash by functions of the library, and of the build for the processor, and the library
     compresses as many messages of BLAKE2b in parallel as is fastest."""
-    chosen = it.after("vj_choose")
+    chosen = it.operands_of_macro("vj_choose")
     if it.is_library:
-        yield "the programs can call the functions that hash", not chosen and sorted(it.after("vj_shared")) == [
+        yield "the programs can call the functions that hash", not chosen and sorted(
+            it.operands_of_macro("vj_shared")) == [
             f"{name}_{it.end}" for name in it.hashing]
         found = sorted(name for name in it.code if name.startswith((FOUR, EIGHT)))
         yield "it compresses as many messages of BLAKE2b in parallel as is fastest", found == [
@@ -165,19 +166,19 @@ def check_hashing(it):
         ", ".join(f"{name}_{CODE}_{end}" for end in (it.build, *BUILDS)) for name in it.hashing if it.build == "x86"]
 
 
-def check_arm(it):
+def claims_on_arm_registers(it):
     """Whether the compressions use the registers that they are to use."""
     code = it.code
     for family in FAMILIES:
         one = [it for it in code if it.startswith(f"blake2_compress..compress..{family}..compress_{CODE}")]
         yield (f"{family}: one message is compressed without vector registers",
-               len(one) == 1 and len(code[one[0]]) > 1000 and count_vectors(code[one[0]]) == 0)
+               len(one) == 1 and len(code[one[0]]) > 1000 and count_vector_instructions(code[one[0]]) == 0)
         several = [it for it in code if it.startswith(f"blake2_compress..many..{family}..compress_blocks_{CODE}")]
         yield (f"{family}: several messages are compressed with them",
-               len(several) == 1 and count_vectors(code[several[0]]) > 3000)
+               len(several) == 1 and count_vector_instructions(code[several[0]]) > 3000)
 
 
-def check_shuffles(it):
+def claims_on_shuffle_counts(it):
     """Whether the compression of several messages has a shuffle for each rotation by whole bytes, and no other."""
     for family, wanted in SHUFFLES[it.build].items():
         kernels = [it.code.get(f"blake2_{name.format(family)}_{it.end}", []) for name in SEVERAL]
@@ -186,7 +187,7 @@ def check_shuffles(it):
         yield f"{family}: several messages are compressed with {wanted} shuffles{'' if holds else found}", holds
 
 
-def frame_of(lines):
+def stack_bytes_of_frame(lines):
     """The most bytes that a function takes from the stack for itself."""
     taken = 0
     for line in lines:
@@ -197,7 +198,7 @@ def frame_of(lines):
     return taken
 
 
-def calls_of(lines):
+def called_functions_and_jumps(lines):
     """The functions that a function calls, and those that it jumps to, after its frame is gone."""
     for line in lines:
         if (m := CALLS.match(line)) and m[5]:
@@ -206,7 +207,7 @@ def calls_of(lines):
             yield m[2] or m[4], bool(m[2])
 
 
-def check_stack(it):
+def claims_on_stack_scrubbing(it):
     """Whether `scrub_stack` covers what was called before it. A line that moves the stack pointer in a way that is not
     known here ends the program."""
     bodies = {name: [line.strip() for line in lines] for name, lines in it.code.items()}
@@ -214,17 +215,20 @@ def check_stack(it):
 
     @functools.lru_cache(maxsize=None)
     def stack_reach(name):
-        frame = frame_of(bodies[name])
-        return max([frame, *(stack_reach(to) + is_call * (frame + pushed) for to, is_call in calls_of(bodies[name]))])
+        frame = stack_bytes_of_frame(bodies[name])
+        return max([frame, *(stack_reach(to) + is_call * (frame + pushed) for to,
+                             is_call in called_functions_and_jumps(bodies[name]))])
 
-    scrubs = {name: {to for to, _ in calls_of(lines) if SCRUB.match(to)} for name, lines in bodies.items()}
+    scrubs = {name: {to for to, _ in called_functions_and_jumps(lines) if SCRUB.match(to)} for name,
+              lines in bodies.items()}
     scrubbing = [name for name in bodies if scrubs[name] and not SCRUB.match(name)]
-    short = [(name, to) for name in scrubbing for to in {to for to, _ in calls_of(bodies[name])} - scrubs[name]
+    short = [(name, to) for name in scrubbing
+             for to in {to for to, _ in called_functions_and_jumps(bodies[name])} - scrubs[name]
              if stack_reach(to) + pushed > min(int(SCRUB.match(scrub)[1]) for scrub in scrubs[name])]
     yield f"scrub_stack covers what was called before it{short[:3] or str()}", not short and len(scrubbing) > 40
 
 
-def before_returns(code):
+def registers_cleared_before_returns(code):
     """The registers that a function clears directly before its returns: those that it clears before each of them."""
     found = []
     for at, line in enumerate(code):
@@ -236,7 +240,7 @@ def before_returns(code):
     return set.intersection(*found) if found else set()
 
 
-def check_upper(it):
+def claims_on_upper_registers(it):
     """Whether the code for AVX-512 leaves nothing in the upper vector registers."""
     code = it.code
     used = {name: {number for line in lines for number in UPPER.findall(line)} for name, lines in code.items()}
@@ -246,10 +250,10 @@ def check_upper(it):
     yield "it has little else, and keeps its rows in registers", 1300 < sum(
         "%zmm" in line for line in code.get(wide, [])) < 1700
     yield "each function clears the upper registers that it uses", all(
-        used[name] <= before_returns(code[name]) for name in code) and any(used.values())
+        used[name] <= registers_cleared_before_returns(code[name]) for name in code) and any(used.values())
     keyed = [name for name in code if "wiping..scrub_stack.." in name]
     yield "what ends a call with a key clears all of them", len(keyed) >= 8 and all(
-        len(before_returns(code[name])) == 16 for name in keyed)
+        len(registers_cleared_before_returns(code[name])) == 16 for name in keyed)
 
 
 def main():
@@ -257,10 +261,12 @@ def main():
         tap.result(CHOOSE.format(_=underscore) in read(f"dist/x86_64/{system}.inc"),
                    f"{system}.inc: a program jumps to the right build")
     for name, build in TEXTS.items():
-        it = Text(name, build)
-        checks = [check_text, check_hashing, *([check_stack] if it.is_library else []),
-                  *([check_arm] if build == "arm" else []), *([check_upper] if build == "v4" else []),
-                  *([check_shuffles] if build in SHUFFLES else [])]
+        it = AssemblyText(name, build)
+        checks = [checks_of_any_assembly_text, claims_on_hashing_calls,
+                  *([claims_on_stack_scrubbing] if it.is_library else []),
+                  *([claims_on_arm_registers] if build == "arm" else []),
+                  *([claims_on_upper_registers] if build == "v4" else []),
+                  *([claims_on_shuffle_counts] if build in SHUFFLES else [])]
         for words, holds in (statement for check in checks for statement in check(it)):
             tap.result(holds, f"{name}: {words}")
     tap.finish()

@@ -44,12 +44,12 @@ Input = namedtuple("Input", "message key salt persona place last_node",
                    defaults=(None, b"", b"", SEQUENTIAL, False))
 
 
-def words_of(family, data):
+def words_from_bytes(family, data):
     count = family.w // 8
     return [int.from_bytes(data[i:i + count], "little") for i in range(0, len(data), count)]
 
 
-def bytes_of(family, words):
+def bytes_from_words(family, words):
     return b"".join(word.to_bytes(family.w // 8, "little") for word in words)
 
 
@@ -60,10 +60,10 @@ def parameter_words(family, size, given):
              + place.node_offset.to_bytes(family.offset, "little") + bytes([place.node_depth, place.inner_length])
              + bytes(family.reserved) + given.salt.ljust(family.salt, b"\0")
              + given.persona.ljust(family.salt, b"\0"))
-    return words_of(family, block)
+    return words_from_bytes(family, block)
 
 
-def entries(family, given):
+def block_entries(family, given):
     """Sections 4 and 7: of each block the bytes, the counter, the final flag and the last-node flag."""
     data = given.message
     if given.key is not None:
@@ -78,7 +78,7 @@ def entries(family, given):
 
 
 @functools.cache
-def compression(family):
+def compile_compression(family):
     """F of section 5 over words, with a variable for each word of v and a statement for each operation, since that is
     five times as fast as loops. A sum is reduced where a word is rotated, and at the end."""
     full = (1 << family.w) - 1
@@ -102,30 +102,31 @@ def compress(family, h, entry):
     """F of section 5."""
     block, counter, final, last_node = entry
     full = (1 << family.w) - 1
-    return compression(family)(h, words_of(family, block), counter & full, counter >> family.w, full * final,
+    return compile_compression(family)(h, words_from_bytes(family, block), counter & full, counter >> family.w,
+                                       full * final,
                                full * last_node)
 
 
-def steps(family, size, given):
+def transcript_and_digest(family, size, given):
     """Sections 6 and 7: the steps, each its words and its entry, and the digest."""
     h = [a ^ b for a, b in zip(family.iv, parameter_words(family, size, given))]
     found = []
-    for entry in entries(family, given):
+    for entry in block_entries(family, given):
         found.append((h, entry))
         h = compress(family, h, entry)
-    return found, bytes_of(family, h)[:size]
+    return found, bytes_from_words(family, h)[:size]
 
 
-def parallel(family, size, given):
+def digest_of_parallel_hash(family, size, given):
     """Section 12: the digest of BLAKE2bp or BLAKE2sp."""
     leaves = 256 // family.w
 
     def output(data, node_offset, node_depth, last_node):
         place = Place(leaves, 2, 0, node_offset, node_depth, family.digest)
         h = [a ^ b for a, b in zip(family.iv, parameter_words(family, size, given._replace(place=place)))]
-        for entry in entries(family, Input(data, last_node=last_node)):
+        for entry in block_entries(family, Input(data, last_node=last_node)):
             h = compress(family, h, entry)
-        return bytes_of(family, h)
+        return bytes_from_words(family, h)
     blocks = [given.message[i:i + family.block] for i in range(0, len(given.message), family.block)]
     first = given.key.ljust(family.block, b"\0") if given.key else b""
     outputs = [output(first + b"".join(blocks[j::leaves]), j, 0, j == leaves - 1) for j in range(leaves)]
@@ -134,31 +135,32 @@ def parallel(family, size, given):
 
 @functools.lru_cache(4096)
 def node_digest(family, size, given):
-    return steps(family, size, given)[1]
+    return transcript_and_digest(family, size, given)[1]
 
 
 def output(family, length, given, is_known=True, xof_length=None):
     """Section 13: this many bytes of the output of BLAKE2Xb or BLAKE2Xs, of a length that is known in advance, which is
     as many or `xof_length`, or not."""
-    total = xof_length or (length if is_known else unknown_length(family))
+    total = xof_length or (length if is_known else unknown_length_of_output(family))
     texts = {"salt": given.salt, "persona": given.persona}
     root = node_digest(family, family.digest, given._replace(place=SEQUENTIAL._replace(node_offset=total << 32)))
     blocks = []
     for i in range(-(-length // family.digest)):
-        size = family.digest if total == unknown_length(family) else min(family.digest, total - i * family.digest)
+        size = family.digest if total == unknown_length_of_output(family) else min(family.digest,
+                                                                                   total - i * family.digest)
         place = Place(0, 0, family.digest, (total << 32) + i, 0, family.digest)
         blocks.append(node_digest(family, size, Input(root, **texts, place=place)))
     return b"".join(blocks)[:length]
 
 
-def unknown_length(family):
+def unknown_length_of_output(family):
     """The length of an output whose length is not known in advance."""
     return 2**(8 * (family.offset - 4)) - 1
 
 
-def read(family, words, listed):
+def read_transcript(family, words, listed):
     """The reader of section 7: the digest length and the input, or None."""
-    p = bytes_of(family, words)
+    p = bytes_from_words(family, words)
     at = 8 + family.offset
     size, kk, fanout, depth = p[:4]
     texts = at + 2 + family.reserved
@@ -179,9 +181,9 @@ def read(family, words, listed):
                        p[texts + family.salt:], place, listed[-1][3])
 
 
-def witness(family, size, a, b):
+def collision_witness(family, size, a, b):
     """Section 8."""
-    (x, of_a), (y, of_b) = steps(family, size, a), steps(family, size, b)
+    (x, of_a), (y, of_b) = transcript_and_digest(family, size, a), transcript_and_digest(family, size, b)
     full = [given._replace(salt=given.salt.ljust(family.salt, b"\0"), persona=given.persona.ljust(family.salt, b"\0"))
             for given in (a, b)]
     if full[0] == full[1] or of_a != of_b:
@@ -199,7 +201,7 @@ Tree = namedtuple("Tree", "leaf_length salt persona")
 def tree_node(tree, size, offset, depth, last_node, data):
     """The digest of a node, in this many bytes."""
     place = Place(0, 2, tree.leaf_length, offset, depth, 64)
-    return steps(B, size, Input(data, None, tree.salt, tree.persona, place, last_node))[1]
+    return transcript_and_digest(B, size, Input(data, None, tree.salt, tree.persona, place, last_node))[1]
 
 
 def leaf_digests(tree, first, ends, data):
@@ -210,7 +212,7 @@ def leaf_digests(tree, first, ends, data):
             for i in range(count)]
 
 
-def root_over(tree, size, digests):
+def root_of_digests(tree, size, digests):
     """The root over the digests of all leaves."""
     return tree_node(tree, size, 0, 1, True, b"".join(digests))
 
@@ -225,19 +227,19 @@ KINDS = {"sum": COMMON, "script": COMMON, "steps": COMMON,
          "xof": {"xb": (B, 64), "xs": (S, 32)}}
 
 
-class Fault(Exception):
+class CommandError(Exception):
     """An error of section 10.5, by what follows `b2: `."""
 
 
 def hex_bytes(digits):
     if len(digits) % 2 or not all(c in "0123456789abcdefABCDEF" for c in digits):
-        raise Fault("wrong hex")
+        raise CommandError("wrong hex")
     return bytes.fromhex(digits)
 
 
 def message_bytes(digits):
     if digits == "":
-        raise Fault("wrong hex")
+        raise CommandError("wrong hex")
     return b"" if digits == "-" else hex_bytes(digits)
 
 
@@ -247,7 +249,7 @@ def decimal_number(digits, most):
     return int(digits) if fits and (digits == "0" or digits[0] != "0") else None
 
 
-def options(words, names):
+def parse_named_options(words, names):
     """The words in brackets."""
     given = {}
     for word in words:
@@ -255,87 +257,87 @@ def options(words, names):
         is_text = name == "persona-text"
         name = "persona" if is_text else name
         if not equals or name not in names or name in given or is_text and not value:
-            raise Fault("wrong words")
+            raise CommandError("wrong words")
         given[name] = value.encode() if is_text else hex_bytes(value)
     return given
 
 
-def length_below(end, words):
+def parse_length_below(end, words):
     """The length that the first of these words gives: a number from 1 on and below this one."""
     length = decimal_number(words[0] if words else "", 10)
     if not length or length >= end:
-        raise Fault("wrong words")
+        raise CommandError("wrong words")
     return length
 
 
-def tree_of(leaf_length, words):
-    given = options(words, ("salt", "persona"))
+def parse_tree(leaf_length, words):
+    given = parse_named_options(words, ("salt", "persona"))
     tree = Tree(leaf_length, given.get("salt", b""), given.get("persona", b""))
     if max(len(tree.salt), len(tree.persona)) > B.salt:
-        raise Fault("wrong length")
+        raise CommandError("wrong length")
     return tree
 
 
-def part_lines(words, source):
+def leaf_digest_lines(words, source):
     """The lines of `leaves`."""
-    leaf_length = length_below(2**32, words)
+    leaf_length = parse_length_below(2**32, words)
     first = decimal_number(words[1], 18) if len(words) > 1 else None
     if first is None or len(words) < 3 or words[2] not in ("more", "last"):
-        raise Fault("wrong words")
-    tree, ends = tree_of(leaf_length, words[3:]), words[2] == "last"
+        raise CommandError("wrong words")
+    tree, ends = parse_tree(leaf_length, words[3:]), words[2] == "last"
     data = source()
     is_range = (len(data) > 0 or first == 0) if ends else len(data) > 0 and len(data) % leaf_length == 0
     if not is_range or first * leaf_length + len(data) >= 2**58:
-        raise Fault("wrong length")
+        raise CommandError("wrong length")
     return [digest.hex() for digest in leaf_digests(tree, first, ends, data)]
 
 
-def line_digests(data):
+def parse_digest_lines(data):
     """The digests in the lines of the input of `root`."""
     found = data.split(b"\n")
     found = found[:-1] if found[-1] == b"" else found
     for number, line in enumerate(found or [b""], 1):
         if len(line) != 128 or not all(c in b"0123456789abcdefABCDEF" for c in line):
-            raise Fault(f"line {number}: wrong line")
+            raise CommandError(f"line {number}: wrong line")
     return [bytes.fromhex(line.decode()) for line in found]
 
 
-def root_line(command, size, words, source):
+def tree_or_root_line(command, size, words, source):
     """The line of `tree` or `root`, by the arguments after KIND."""
-    tree = tree_of(length_below(2**32, words), words[1:])
+    tree = parse_tree(parse_length_below(2**32, words), words[1:])
     data = source()
-    digests = line_digests(data) if command == "root" else leaf_digests(tree, 0, True, data)
-    return root_over(tree, size, digests).hex()
+    digests = parse_digest_lines(data) if command == "root" else leaf_digests(tree, 0, True, data)
+    return root_of_digests(tree, size, digests).hex()
 
 
-def derived(words, source):
+def derived_key_text(words, source):
     """The text of `derive`."""
-    length = length_below(unknown_length(B), words)
+    length = parse_length_below(unknown_length_of_output(B), words)
     if len(words) < 2 or words[2:] not in ([], ["raw"]):
-        raise Fault("wrong words")
+        raise CommandError("wrong words")
     key = source()
     if not 1 <= len(key) <= B.key:
-        raise Fault("wrong length")
+        raise CommandError("wrong length")
     return output_text(output(B, length, Input(words[1].encode(), key)), words[2:])
 
 
 def output_text(data, words):
     """What is printed of these bytes: with `raw` they, and otherwise a line."""
-    return data if words else text_of([data.hex()])
+    return data if words else join_lines([data.hex()])
 
 
-def text_of(printed):
+def join_lines(printed):
     """These lines."""
     return "".join(line + "\n" for line in printed).encode()
 
 
-def script_calls(data):
+def parse_script(data):
     """Section 10.3: the calls of a script's lines."""
     lines = data.split(b"\n")
     calls = []
     for number, line in enumerate(lines[:-1] if lines[-1] == b"" else lines, 1):
         fields = line.decode("latin-1").split(" ")
-        wrong = Fault(f"line {number}: wrong line")
+        wrong = CommandError(f"line {number}: wrong line")
         if len(fields) != (3 if fields[0] == "u" else 2) or fields[0] not in ("u", "c", "r", "f", "d"):
             raise wrong
         slot = decimal_number(fields[1], 9)
@@ -343,19 +345,19 @@ def script_calls(data):
             raise wrong
         try:
             calls.append((fields[0], slot, message_bytes(fields[2]) if fields[0] == "u" else b""))
-        except Fault:
+        except CommandError:
             raise wrong from None
     return calls
 
 
-def script(family, size, given, data):
+def script_output_lines(family, size, given, data):
     """Section 10.3: the lines that a script prints."""
     slots, printed = [b""], []
-    for number, (name, slot, more) in enumerate(script_calls(data), 1):
+    for number, (name, slot, more) in enumerate(parse_script(data), 1):
         if slot >= len(slots) or slots[slot] is None:
-            raise Fault(f"line {number}: no such slot")
+            raise CommandError(f"line {number}: no such slot")
         if name in "fd":
-            printed.append(steps(family, size, given._replace(message=slots[slot]))[1].hex())
+            printed.append(transcript_and_digest(family, size, given._replace(message=slots[slot]))[1].hex())
         if name == "c":
             slots.append(slots[slot])
         else:
@@ -363,63 +365,64 @@ def script(family, size, given, data):
     return printed
 
 
-def fields(family, letter, words, entry=None):
+def transcript_line(family, letter, words, entry=None):
     """A line of section 10.4: words, and counter, final flag and block of an entry, if it has them."""
     parts = [letter, *(f"{word:0{family.w // 4}x}" for word in words)]
     return " ".join(parts + [str(entry[1]), str(int(entry[2])), entry[0].hex()] if entry else parts)
 
 
-def text(words, source):
+def output_of_command(words, source):
     """What the arguments request; the source is a function that reads the input."""
     if words and words[0] == "derive":
-        return derived(words[1:], source)
+        return derived_key_text(words[1:], source)
     if words and words[0] == "leaves":
-        return text_of(part_lines(words[1:], source))
+        return join_lines(leaf_digest_lines(words[1:], source))
     if not words or words[0] not in KINDS or len(words) < 2 or words[1] not in KINDS[words[0]]:
-        raise Fault("wrong words")
+        raise CommandError("wrong words")
     command, (family, size), rest = words[0], KINDS[words[0]][words[1]], words[2:]
     if command == "witness":
         messages = [message_bytes(word) for word in rest[:2]]
         if len(rest) != 2:
-            raise Fault("wrong words")
-        pair = witness(family, size, *(Input(message) for message in messages))
-        return text_of([fields(family, "s", h, entry) for h, entry in pair] if pair else ["none"])
+            raise CommandError("wrong words")
+        pair = collision_witness(family, size, *(Input(message) for message in messages))
+        return join_lines([transcript_line(family, "s", h, entry) for h, entry in pair] if pair else ["none"])
     if command in ("tree", "root"):
-        return text_of([root_line(command, size, rest, source)])
+        return join_lines([tree_or_root_line(command, size, rest, source)])
     if command == "xof":
-        length, raw = length_below(unknown_length(family), rest), rest[1:2] if rest[1:2] == ["raw"] else []
+        length, raw = parse_length_below(unknown_length_of_output(family),
+                                         rest), rest[1:2] if rest[1:2] == ["raw"] else []
         rest = rest[1 + len(raw):]
-    given = Input(b"", **options(rest, ("key", "salt", "persona")))
+    given = Input(b"", **parse_named_options(rest, ("key", "salt", "persona")))
     if max(len(given.salt), len(given.persona)) > family.salt or given.key is not None and not (
             1 <= len(given.key) <= family.key):
-        raise Fault("wrong length")
+        raise CommandError("wrong length")
     data = source()
     if command == "script":
-        return text_of(script(family, size, given, data))
+        return join_lines(script_output_lines(family, size, given, data))
     given = given._replace(message=data)
     if command == "xof":
         return output_text(output(family, length, given), raw)
     if command == "sum":
-        return text_of([steps(family, size, given)[1].hex()])
-    parts = [fields(family, "w", parameter_words(family, size, given))]
-    return text_of(parts + [fields(family, "e", [], entry) for entry in entries(family, given)])
+        return join_lines([transcript_and_digest(family, size, given)[1].hex()])
+    parts = [transcript_line(family, "w", parameter_words(family, size, given))]
+    return join_lines(parts + [transcript_line(family, "e", [], entry) for entry in block_entries(family, given)])
 
 
-def run(words, source):
+def run_command(words, source):
     """The status and the output of the program with these words, which are bytes."""
     try:
         words = [word.decode() for word in words]
     except UnicodeDecodeError:
         return 1, b"b2: no memory\n"
     try:
-        return 0, text(words, source)
-    except Fault as fault:
+        return 0, output_of_command(words, source)
+    except CommandError as fault:
         return 2, f"b2: {fault}\n".encode()
     except OSError:
         return 1, b"b2: read failed\n"
 
 
 if __name__ == "__main__":
-    STATUS, OUTPUT = run([os.fsencode(word) for word in sys.argv[1:]], sys.stdin.buffer.read)
+    STATUS, OUTPUT = run_command([os.fsencode(word) for word in sys.argv[1:]], sys.stdin.buffer.read)
     sys.stdout.buffer.write(OUTPUT)
     sys.exit(STATUS)

@@ -36,14 +36,14 @@ void *__libc_malloc(size_t size), *__libc_realloc(void *place, size_t size);
 
 enum { PIECE = 8, MOST = 64 };
 
-static long number_variable(const char *name) {
+static long number_from_environment(const char *name) {
     const char *text = getenv(name);
     return text ? atol(text) : 0;
 }
 
 /* How many pieces of the key, of which each byte is given by its complement, are in these bytes, at any place. It
  * compares byte by byte, since a word that is equal could be left on the stack here. */
-static unsigned long found_in(const unsigned char *from, const unsigned char *to, const unsigned char *others,
+static unsigned long key_pieces_in_range(const unsigned char *from, const unsigned char *to, const unsigned char *others,
                               size_t length) {
     unsigned long found = 0;
 
@@ -56,7 +56,7 @@ static unsigned long found_in(const unsigned char *from, const unsigned char *to
     return found;
 }
 
-static unsigned long found_in_all(const char *digits) {
+static unsigned long key_pieces_in_memory(const char *digits) {
     static unsigned char others[MOST];
     static char maps[1 << 16];
     const int file = (int)syscall(SYS_openat, AT_FDCWD, "/proc/self/maps", O_RDONLY);
@@ -71,7 +71,7 @@ static unsigned long found_in_all(const char *digits) {
     syscall(SYS_close, file);
     for (const char *line = maps; line && *line; line = strchr(line, '\n'), line += !!line)
         if (sscanf(line, "%lx-%lx %4s", &from, &to, mode) == 3 && !strncmp(mode, "rw", 2))
-            found += found_in((const unsigned char *)from, (const unsigned char *)to, others, length);
+            found += key_pieces_in_range((const unsigned char *)from, (const unsigned char *)to, others, length);
     return found;
 }
 
@@ -90,7 +90,7 @@ static void log_call(const char *call, const char *name) {
 
 /* Whether this call, over a file that was opened with these flags, is one of those that fail. A file before its turn is
  * opened with O_NONBLOCK. */
-static int is_hit_over(const char *call, int flags) {
+static int is_failing_call_with_flags(const char *call, int flags) {
     static long calls;
     const char *wanted = getenv("FAULT_CALL"), *key = getenv("FAULT_KEY");
     struct rlimit core;
@@ -100,29 +100,29 @@ static int is_hit_over(const char *call, int flags) {
 
     if (!wanted || strcmp(call, wanted)) return 0;
     count = __atomic_add_fetch(&calls, 1, __ATOMIC_RELAXED);
-    if (count < number_variable("FAULT_AT") || count > number_variable("FAULT_LAST")) return 0;
+    if (count < number_from_environment("FAULT_AT") || count > number_from_environment("FAULT_LAST")) return 0;
     file = (int)syscall(SYS_openat, AT_FDCWD, getenv("FAULT_OUT"), O_CREAT | O_WRONLY, 0600);
     if (key) {
         getrlimit(RLIMIT_CORE, &core);
-        count = sprintf(line, "%lu %ld %d\n", found_in_all(key), syscall(SYS_prctl, PR_GET_DUMPABLE),
+        count = sprintf(line, "%lu %ld %d\n", key_pieces_in_memory(key), syscall(SYS_prctl, PR_GET_DUMPABLE),
                         core.rlim_max != 0);
         syscall(SYS_write, file, line, count);
     } else if (flags & O_NONBLOCK) {
         syscall(SYS_write, file, "+", 1);
     }
     syscall(SYS_close, file);
-    if (number_variable("FAULT_ERROR") == -2) return raise(SIGSTOP);
-    errno = (int)number_variable("FAULT_ERROR");
+    if (number_from_environment("FAULT_ERROR") == -2) return raise(SIGSTOP);
+    errno = (int)number_from_environment("FAULT_ERROR");
     return !key;
 }
 
-static int is_hit(const char *call) { return is_hit_over(call, 0); }
+static int is_failing_call(const char *call) { return is_failing_call_with_flags(call, 0); }
 
 /* Whether this call fails, or returns 0; or else how many bytes it reads or writes at most. */
-static int ends(const char *call, int flags, size_t *size, long *result) {
-    const long error = number_variable("FAULT_ERROR");
+static int fails_or_shortens_call(const char *call, int flags, size_t *size, long *result) {
+    const long error = number_from_environment("FAULT_ERROR");
 
-    if (!is_hit_over(call, flags)) return 0;
+    if (!is_failing_call_with_flags(call, flags)) return 0;
     if (!error && *size > 1) *size = 1;
     *result = error < 0 ? 0 : -1;
     return error != 0;
@@ -132,46 +132,46 @@ ssize_t readv(int file, const struct iovec *room, int count) {
     struct iovec first = *room;
     long result;
 
-    return ends("readv", fcntl(file, F_GETFL), &first.iov_len, &result) ? result
+    return fails_or_shortens_call("readv", fcntl(file, F_GETFL), &first.iov_len, &result) ? result
                                                                         : syscall(SYS_readv, file, &first, count);
 }
 
 ssize_t pread(int file, void *bytes, size_t size, off_t from) {
     long result;
 
-    return ends("pread", 0, &size, &result) ? result : syscall(SYS_pread64, file, bytes, size, from);
+    return fails_or_shortens_call("pread", 0, &size, &result) ? result : syscall(SYS_pread64, file, bytes, size, from);
 }
 
 ssize_t write(int file, const void *bytes, size_t size) {
     long result;
 
     if (file == STDOUT_FILENO) log_call("write", "");
-    return ends("write", 0, &size, &result) ? result : syscall(SYS_write, file, bytes, size);
+    return fails_or_shortens_call("write", 0, &size, &result) ? result : syscall(SYS_write, file, bytes, size);
 }
 
 ssize_t __write(int file, const void *bytes, size_t size) { return write(file, bytes, size); }
 
 int openat(int folder, const char *name, int flags, ...) {
     log_call(flags & O_NONBLOCK ? "ahead " : flags & O_DIRECTORY ? "list " : "open ", name);
-    return is_hit_over("openat", flags) ? -1 : (int)syscall(SYS_openat, folder, name, flags, 0);
+    return is_failing_call_with_flags("openat", flags) ? -1 : (int)syscall(SYS_openat, folder, name, flags, 0);
 }
 
 /* Without an error it is the end of the folder. */
 struct dirent *readdir(DIR *folder) {
-    if (is_hit("readdir")) return NULL;
+    if (is_failing_call("readdir")) return NULL;
     return (struct dirent *)readdir64(folder); /* which are the same on 64-bit systems */
 }
 
-int prctl(int option, ...) { return is_hit("prctl") ? -1 : (int)syscall(SYS_prctl, option, 0L, 0L, 0L, 0L); }
+int prctl(int option, ...) { return is_failing_call("prctl") ? -1 : (int)syscall(SYS_prctl, option, 0L, 0L, 0L, 0L); }
 
-int close(int file) { return is_hit("close") ? -1 : (int)syscall(SYS_close, file); }
+int close(int file) { return is_failing_call("close") ? -1 : (int)syscall(SYS_close, file); }
 
-void *malloc(size_t size) { return is_hit("malloc") ? NULL : __libc_malloc(size); }
+void *malloc(size_t size) { return is_failing_call("malloc") ? NULL : __libc_malloc(size); }
 
-void *realloc(void *place, size_t size) { return is_hit("realloc") ? NULL : __libc_realloc(place, size); }
+void *realloc(void *place, size_t size) { return is_failing_call("realloc") ? NULL : __libc_realloc(place, size); }
 
 int posix_fadvise(int file, off_t from, off_t length, int advice) {
     (void)file;
-    if (!from && !length && advice == POSIX_FADV_SEQUENTIAL) is_hit("posix_fadvise");
+    if (!from && !length && advice == POSIX_FADV_SEQUENTIAL) is_failing_call("posix_fadvise");
     return EINVAL;
 }

@@ -14,10 +14,11 @@ import os
 import random
 import subprocess
 
-from b2sum_model import LIKE_DIGITS, SHORT, seal
+from b2sum_model import LIKE_DIGITS, SHORT, seal_line
 from b2sum_support import (
-    FILES, both_digests, check_line, derived_key, digest, line, lines, longest, outcome_of_fault, root_line, run_tests,
-    scan_memory)
+    FILES, expected_and_found_lines, check_result_line, derived_key, digest, manifest_line, manifest_lines,
+    longest_digest_bits, run_and_faults_said, tree_manifest_line, run_program_tests,
+    key_copies_and_dump_flags)
 from common import TOP
 
 HUGE = bool(os.environ.get("VULFSJOR_TEST_HUGE"))
@@ -75,18 +76,18 @@ WRONG = {
 }
 
 
-def option(name, value, number):
+def option_in_numbered_form(name, value, number):
     """An option in one of its forms."""
     return ([f"--{name}", value], [f"--{name}={value}"], [f"--{name[:-1]}", value])[number % 3]
 
 
-def deriving(context, number=0):
-    return option("derive-key", context, number)
+def derive_key_option(context, number=0):
+    return option_in_numbered_form("derive-key", context, number)
 
 
 # ---- Derived keys.
 
-def test_derived(runs):
+def test_derived_keys_of_every_length(runs):
     """Keys of each length, from a file of bytes or of digits and from standard input, for all hashes."""
     for length, family in itertools.product(range(1, 65), HASHES):
         if len(family) > 1 and not HUGE and length not in (1, 32, 33, 64):
@@ -94,45 +95,45 @@ def test_derived(runs):
         key, context = SECRET[:length], f"records {length}"
         runs.write("key", key)
         runs.write("keyhex", key.hex().encode() + b"\n" * (length % 2))
-        given = {"bits": longest(family), "family": family, "key": derived_key(key, context, family)}
-        text = lines(tag=True, **given)
-        words = ["-a", f"blake2{family}", *deriving(context, length)]
-        runs.wants([*words, "--key-file", "key", "--tag", *FILES], text)
-        runs.wants([*words, "--key-hex-file", "keyhex", "--tag", *FILES], text)
-        runs.wants([*words, "--key-file", "-", "--tag", *FILES], text, data=key)
+        given = {"bits": longest_digest_bits(family), "family": family, "key": derived_key(key, context, family)}
+        text = manifest_lines(tag=True, **given)
+        words = ["-a", f"blake2{family}", *derive_key_option(context, length)]
+        runs.expect_run([*words, "--key-file", "key", "--tag", *FILES], text)
+        runs.expect_run([*words, "--key-hex-file", "keyhex", "--tag", *FILES], text)
+        runs.expect_run([*words, "--key-file", "-", "--tag", *FILES], text, data=key)
         runs.write("sums", os.fsencode(text))
-        shown = "".join(map(check_line, FILES))
-        runs.wants([*words, "--key-hex-file=-", "-c", "sums"], shown, data=key.hex().upper().encode())
-        runs.wants([*words, "--key-file=key", "-c"], shown, data=os.fsencode(text))
+        shown = "".join(map(check_result_line, FILES))
+        runs.expect_run([*words, "--key-hex-file=-", "-c", "sums"], shown, data=key.hex().upper().encode())
+        runs.expect_run([*words, "--key-file=key", "-c"], shown, data=os.fsencode(text))
         for wrong in (["--key-file", "key", "--derive-key", context + "x"], ["--key-hex-file", "keyhex"]):
             got = runs.run([*words[:2], *wrong, "-c", "--quiet", "sums"])
-            runs.holds([*wrong, length], got[2] == 1 and b"OK" not in got[0], got)
-    runs.ends("derived keys from keys of each length")
+            runs.expect([*wrong, length], got[2] == 1 and b"OK" not in got[0], got)
+    runs.report_results("derived keys from keys of each length")
 
 
-def test_contexts(runs):
+def test_contexts_of_any_bytes(runs):
     """Contexts of any bytes and of many lengths. The last one counts."""
     runs.write("key", SECRET[:32])
     contexts = [*CONTEXTS, *(os.fsdecode(bytes([byte])) for byte in range(1, 256, 1 if HUGE else 9))]
     for number, context in enumerate(contexts):
         for family in HASHES[:2] if number % 8 else HASHES:
             key = derived_key(SECRET[:32], context, family)
-            words = ["-a", f"blake2{family}", "--key-file", "key", *deriving(context, number)]
-            runs.wants([*words, "b"], line("b", b"abc", longest(family), family, key=key))
+            words = ["-a", f"blake2{family}", "--key-file", "key", *derive_key_option(context, number)]
+            runs.expect_run([*words, "b"], manifest_line("b", b"abc", longest_digest_bits(family), family, key=key))
     key = derived_key(SECRET[:32], "second")
-    runs.wants(["--key-file", "key", "--derive-key", "first", "--derive-key", "second", "b"],
-               line("b", b"abc", key=key))
-    runs.wants(["--derive-key", "second", "--key-hex-file=-", "b"], line("b", b"abc", key=key),
+    runs.expect_run(["--key-file", "key", "--derive-key", "first", "--derive-key", "second", "b"],
+               manifest_line("b", b"abc", key=key))
+    runs.expect_run(["--derive-key", "second", "--key-hex-file=-", "b"], manifest_line("b", b"abc", key=key),
                data=SECRET[:32].hex().encode())
     for bits, salt, person in itertools.product((8, 120, 128, 512), (b"", b"salt"), (b"", b"person")):
         given = {**({"salt": salt} if salt else {}), **({"person": person} if person else {})}
         more = [*(["--salt", salt.hex()] if salt else []), *(["--personal-text=person"] if person else [])]
-        runs.wants(["--key-file=key", "--derive-key=second", "-l", str(bits), *more, "--tag", "b"],
-                   line("b", b"abc", bits, tag=True, key=key, **given), SHORT if bits < 128 else "")
-    runs.ends("contexts of derived keys")
+        runs.expect_run(["--key-file=key", "--derive-key=second", "-l", str(bits), *more, "--tag", "b"],
+                   manifest_line("b", b"abc", bits, tag=True, key=key, **given), SHORT if bits < 128 else "")
+    runs.report_results("contexts of derived keys")
 
 
-def program_b2(runs):
+def path_of_b2(runs):
     """The program b2: the one that is beside b2sum or that the tests share, or else the one that is built here."""
     for folder in (os.path.dirname(runs.program), os.environ.get("VULFSJOR_PROGRAMS") or ""):
         if os.access(os.path.join(folder, "b2"), os.X_OK):
@@ -140,50 +141,51 @@ def program_b2(runs):
     return os.path.join(TOP, "b2")
 
 
-def test_tool(runs):
+def test_b2_derive_gives_same_key(runs):
     """`b2 derive` derives the same key. Its arguments are UTF-8."""
-    tool, rng = program_b2(runs), random.Random(5)
+    tool, rng = path_of_b2(runs), random.Random(5)
     for number in range(60 if HUGE else 12):
         key, context = rng.randbytes(rng.randint(1, 64)), rng.choice([it for it in CONTEXTS if "\udcff" not in it])
         runs.write("key", key)
         for family, size in (("b", "64"), ("s", "32")):
             done = subprocess.run([tool, "derive", size, context, "raw"], input=key, stdout=subprocess.PIPE)
-            runs.holds([context, size], done.stdout == derived_key(key, context, family), done)
+            runs.expect([context, size], done.stdout == derived_key(key, context, family), done)
             words = ["-a", f"blake2{family}", "--tag", *FILES]
-            got = runs.run(["--key-file", "key", *deriving(context, number), *words])
-            runs.holds([context, *words], got[0] and got == runs.run(["--key-file=-", *words], done.stdout), got)
-    runs.ends("derived keys by the program b2")
+            got = runs.run(["--key-file", "key", *derive_key_option(context, number), *words])
+            runs.expect([context, *words], got[0] and got == runs.run(["--key-file=-", *words], done.stdout), got)
+    runs.report_results("derived keys by the program b2")
 
 
-def test_key_files(runs):
+def test_bad_key_files_are_refused(runs):
     """What is no key, and warnings of keys. They are about the bytes of the file."""
     for (family, length), words in itertools.product(itertools.product(HASHES, (0, 65, 66, 1000)), ([], ["-c"])):
         words = ["-a", f"blake2{family}", "--derive-key", "x", *words]
         runs.write("key", bytes(length))
         runs.write("keyhex", b"00" * length)
-        runs.wants([*words, "--key-file", "key", "b"], "", "key: a key has 1 to 64 bytes", 1)
-        runs.wants([*words, "--key-file=-", "b"], "", "-: a key has 1 to 64 bytes", 1, data=bytes(length))
+        runs.expect_run([*words, "--key-file", "key", "b"], "", "key: a key has 1 to 64 bytes", 1)
+        runs.expect_run([*words, "--key-file=-", "b"], "", "-: a key has 1 to 64 bytes", 1, data=bytes(length))
         said = "a key has 2 to 128 hexadecimal digits, two for each byte"
-        runs.wants([*words, "--key-hex-file", "keyhex", "b"], "", f"keyhex: {said}", 1)
-        runs.wants([*words, "--key-hex-file=-", "b"], "", f"-: {said}", 1, data=b"00" * length + b"g")
+        runs.expect_run([*words, "--key-hex-file", "keyhex", "b"], "", f"keyhex: {said}", 1)
+        runs.expect_run([*words, "--key-hex-file=-", "b"], "", f"-: {said}", 1, data=b"00" * length + b"g")
     for name, error in (("none", errno.ENOENT), (".", errno.EISDIR)):
-        runs.wants(["--derive-key", "x", "--key-file", name, "b"], "", f"{name}: {os.strerror(error)}", 1)
+        runs.expect_run(["--derive-key", "x", "--key-file", name, "b"], "", f"{name}: {os.strerror(error)}", 1)
     for text in (b"00" * 16, b"0" * 63 + b"\n", b"aF", b"0", b"0" * 64, b"0g", bytes(32)):
         said = "" if text in (b"0g", bytes(32)) else f"WARNING: key: {LIKE_DIGITS}\n"
         runs.write("key", text)
         for family, bits in (("b", 512), ("s", 256), ("s", 64)):
             words = ["-a", f"blake2{family}", "-l", str(bits), "--derive-key=x", "--key-file", "key"]
-            mac = line("b", b"abc", bits, family, key=derived_key(text, "x", family))
+            mac = manifest_line("b", b"abc", bits, family, key=derived_key(text, "x", family))
             said_too = SHORT if bits < 128 else ""
-            runs.wants([*words, "b"], mac, said + said_too)
-            runs.wants([*words, "-c"], "b: OK\n", said + said_too, data=mac.encode())
+            runs.expect_run([*words, "b"], mac, said + said_too)
+            runs.expect_run([*words, "-c"], "b: OK\n", said + said_too, data=mac.encode())
     os.chmod(runs.path("key"), 0o644)
-    runs.wants(["--key-file", "key", "--derive-key", "x", "b"], line("b", b"abc", key=derived_key(bytes(32), "x")),
+    runs.expect_run(["--key-file", "key", "--derive-key", "x", "b"],
+                    manifest_line("b", b"abc", key=derived_key(bytes(32), "x")),
                "WARNING: others may read the key file key (chmod 600 prevents it)")
-    runs.ends("key files of derived keys")
+    runs.report_results("key files of derived keys")
 
 
-def test_seals(runs):
+def test_seal_holds_only_for_its_key(runs):
     """A list that is sealed under a derived key holds only under the same key, context and family."""
     contexts = ("records", "Records", "records ", "record", "records\n", "x" * 4000, "x" * 3999 + "y")
     other = SECRET[:31] + bytes([SECRET[31] ^ 1])
@@ -192,65 +194,67 @@ def test_seals(runs):
         os.chmod(runs.path(name), 0o600)
     for family, context in itertools.product(HASHES, contexts[:3] if not HUGE else contexts):
         key, hash_of = derived_key(SECRET[:32], context, family), ["-a", f"blake2{family}"]
-        text = os.fsencode(lines(tag=True, bits=longest(family), family=family, key=key))
+        text = os.fsencode(manifest_lines(tag=True, bits=longest_digest_bits(family), family=family, key=key))
         with_key = [*hash_of, "--key-file", "key"]
-        runs.wants(["--seal", *with_key, "--derive-key", context, *FILES], text + seal(text, key))
-        runs.write("SUMS", text + seal(text, key))
+        runs.expect_run(["--seal", *with_key, "--derive-key", context, *FILES], text + seal_line(text, key))
+        runs.write("SUMS", text + seal_line(text, key))
         runs.write("derived", key)
         os.chmod(runs.path("derived"), 0o600)
-        shown, broken = "".join(map(check_line, FILES)), "SUMS: the seal does not hold"
+        shown, broken = "".join(map(check_result_line, FILES)), "SUMS: the seal does not hold"
         check = ["-c", "--sealed", *hash_of]
         for right in (["--key-file=key", "--derive-key", context], ["--key-file", "derived"]):
-            runs.wants([*check, *right, "SUMS"], shown)
+            runs.expect_run([*check, *right, "SUMS"], shown)
         for wrong in (["--key-file", "key"], *(["--key-file", it, "--derive-key", context] for it in (
                 "other", "longer", "derived")), *(["--key-file", "key", "--derive-key", it] for it in contexts
                                                   if it != context)):
-            runs.wants([*check, *wrong, "SUMS"], "", broken, 1)
+            runs.expect_run([*check, *wrong, "SUMS"], "", broken, 1)
         swapped = "b" if family[0] == "s" else "s"  # whose derived keys have another length
-        runs.wants(["-c", "--sealed", "-a", f"blake2{swapped}", "--key-file=key", "--derive-key", context, "SUMS"], "",
+        runs.expect_run(["-c", "--sealed", "-a", f"blake2{swapped}", "--key-file=key", "--derive-key", context, "SUMS"],
+                        "",
                    broken, 1)
         forged = text.replace(b"(b)", b"(a)", 1)
-        for last in (seal(text, key), seal(forged, SECRET[:32]), seal(forged, b"k")):
+        for last in (seal_line(text, key), seal_line(forged, SECRET[:32]), seal_line(forged, b"k")):
             runs.write("SUMS", forged + last)
-            runs.wants([*check, "--key-file=key", "--derive-key", context, "SUMS"], "", broken, 1)
-    runs.ends("lists that are sealed under a derived key")
+            runs.expect_run([*check, "--key-file=key", "--derive-key", context, "SUMS"], "", broken, 1)
+    runs.report_results("lists that are sealed under a derived key")
 
 
 # ---- Expected digests.
 
-def test_expected(runs):
+def test_expected_digest_is_compared(runs):
     """Each length of each hash, in either case: a file that has the digest, and one that has another."""
     for family in HASHES:
-        words, most = ["-a", f"blake2{family}"], longest(family) // 8
+        words, most = ["-a", f"blake2{family}"], longest_digest_bits(family) // 8
         for size in range(1, most + 1) if len(family) == 1 or HUGE else (1, 16, most - 1, most):
             found = digest(family, b"abc", size)
             form = (str.lower, str.upper, str.title)[size % 3](found.hex())
-            runs.wants([*words, *option("expect", form, size), "b"], "b: OK\n")
-            runs.wants([*words, *option("expect", form, size + 1), "-l", str(8 * size), "b", "b"], "b: OK\n" * 2)
+            runs.expect_run([*words, *option_in_numbered_form("expect", form, size), "b"], "b: OK\n")
+            runs.expect_run([*words, *option_in_numbered_form("expect", form, size + 1), "-l", str(8 * size), "b", "b"],
+                            "b: OK\n" * 2)
             at = random.Random(size).randrange(8 * size)
             other = (int.from_bytes(found, "big") ^ 1 << at).to_bytes(size, "big")
-            runs.wants([*words, "--expect", other.hex(), "b"], "b: FAILED\n", status=1)
+            runs.expect_run([*words, "--expect", other.hex(), "b"], "b: FAILED\n", status=1)
             if size < most:  # a beginning of a longer digest is no digest
-                runs.wants([*words, "--expect", digest(family, b"abc", most)[:size].hex(), "b"], "b: FAILED\n",
+                runs.expect_run([*words, "--expect", digest(family, b"abc", most)[:size].hex(), "b"], "b: FAILED\n",
                            status=1)
     whole, names = digest("b", b"abc", 64).hex(), list(FILES)
-    runs.wants(["--expect", whole], "-: OK\n", data=b"abc")
-    runs.wants(["--expect", whole, "-"], "-: OK\n", data=b"abc")
-    runs.wants(["--expect", whole], "-: FAILED\n", status=1, data=b"abd")
-    runs.wants(["--expect", whole, "-", "-"], "-: OK\n-: FAILED\n", status=1, data=b"abc")
-    runs.wants(["--expect", WHOLE, "--expect", whole, "b"], "b: OK\n")
+    runs.expect_run(["--expect", whole], "-: OK\n", data=b"abc")
+    runs.expect_run(["--expect", whole, "-"], "-: OK\n", data=b"abc")
+    runs.expect_run(["--expect", whole], "-: FAILED\n", status=1, data=b"abd")
+    runs.expect_run(["--expect", whole, "-", "-"], "-: OK\n-: FAILED\n", status=1, data=b"abc")
+    runs.expect_run(["--expect", WHOLE, "--expect", whole, "b"], "b: OK\n")
     for data in FILES.values():
-        out = "".join(check_line(name, "OK" if FILES[name] == data else "FAILED") for name in names)
-        runs.wants(["--expect", digest("b", data, 64).hex(), *names], out, status=1)
+        out = "".join(check_result_line(name, "OK" if FILES[name] == data else "FAILED") for name in names)
+        runs.expect_run(["--expect", digest("b", data, 64).hex(), *names], out, status=1)
     for words in (["-c"], ["--check"]):
-        runs.wants([*words, "--expect", whole, "b"], "b: OK\n")
+        runs.expect_run([*words, "--expect", whole, "b"], "b: OK\n")
     for bit in range(512):
         other = (int(whole, 16) ^ 1 << bit).to_bytes(64, "big").hex()
-        runs.wants(["--expect", other, "b"], "b: FAILED\n", status=1)
-    runs.ends("expected digests of each length")
+        runs.expect_run(["--expect", other, "b"], "b: FAILED\n", status=1)
+    runs.report_results("expected digests of each length")
 
 
-def test_expected_options(runs):
+def test_expected_digest_with_other_options(runs):
     """Expected digests with the options of checks, of keys and of trees, and files that cannot be read."""
     whole, gone = digest("b", b"abc", 64), f"none: {os.strerror(errno.ENOENT)}"
     words = ["--expect", whole.hex(), "b", "none", "a", "with\nline"]
@@ -258,62 +262,66 @@ def test_expected_options(runs):
     shown = {"": "b: OK\nnone: FAILED open or read\n" + failed, "--quiet": "none: FAILED open or read\n" + failed,
              "--status": "", "-w": "b: OK\nnone: FAILED open or read\n" + failed}
     for option_of, out in shown.items():
-        runs.wants([option_of, *words][not option_of:], out, gone, 1)
-    runs.wants(["--status", "--expect", whole.hex(), "b"], "")
-    runs.wants(["--status", "--expect", whole.hex(), "a"], "", status=1)
+        runs.expect_run([option_of, *words][not option_of:], out, gone, 1)
+    runs.expect_run(["--status", "--expect", whole.hex(), "b"], "")
+    runs.expect_run(["--status", "--expect", whole.hex(), "a"], "", status=1)
     for data in (b"", b"x" * 1000):
-        runs.wants(["--show-digests", "--expect", whole.hex(), "a", "b"], "a: FAILED\n" +
-                   both_digests(whole, digest("b", b"", 64)) + "b: OK\n", status=1)
-    runs.wants(["--show-digests", "--expect", whole.hex().upper()], "-: FAILED\n" +
-               both_digests(whole, digest("b", b"x", 64)), status=1, data=b"x")
-    runs.wants(["--show-digests", "--status", "--expect", whole.hex(), "a"], "", status=1)
+        runs.expect_run(["--show-digests", "--expect", whole.hex(), "a", "b"], "a: FAILED\n" +
+                   expected_and_found_lines(whole, digest("b", b"", 64)) + "b: OK\n", status=1)
+    runs.expect_run(["--show-digests", "--expect", whole.hex().upper()], "-: FAILED\n" +
+               expected_and_found_lines(whole, digest("b", b"x", 64)), status=1, data=b"x")
+    runs.expect_run(["--show-digests", "--status", "--expect", whole.hex(), "a"], "", status=1)
     os.mkdir(runs.path("dir"))
     for name, error in (("dir", errno.EISDIR), ("b/x", errno.ENOTDIR), ("n" * 256, errno.ENAMETOOLONG), ("",
                         errno.ENOENT)):
-        runs.wants(["--expect", whole.hex(), "b", name, "b"], f"b: OK\n{name}: FAILED open or read\nb: OK\n",
+        runs.expect_run(["--expect", whole.hex(), "b", name, "b"], f"b: OK\n{name}: FAILED open or read\nb: OK\n",
                    f"{name or chr(39) * 2}: {os.strerror(error)}", 1)
     for leaf, bits in itertools.product((1, 4, 1024, 65536), (512, 256, 8)):
         root = digest(f"tree-{leaf}", b"abc", bits // 8).hex()
-        runs.wants(["--tree", str(leaf), "--expect", root, "b"], "b: OK\n")
-        runs.wants(["--tree", str(leaf + 1), "--expect", root, "b"], "b: FAILED\n", status=1)
-        runs.wants(["--expect", root, "b"], "b: FAILED\n", status=1)
+        runs.expect_run(["--tree", str(leaf), "--expect", root, "b"], "b: OK\n")
+        runs.expect_run(["--tree", str(leaf + 1), "--expect", root, "b"], "b: FAILED\n", status=1)
+        runs.expect_run(["--expect", root, "b"], "b: FAILED\n", status=1)
     runs.write("key", SECRET[:32])
     for family, bits, context, salt in itertools.product(HASHES, (None, 64, 128), (None, "records"), (b"", b"salt")):
         key = derived_key(SECRET[:32], context, family) if context else SECRET[:32]
         given = {"key": key, **({"salt": salt} if salt else {})}
-        mac = digest(family, b"abc", (bits or longest(family)) // 8, **given).hex()
+        mac = digest(family, b"abc", (bits or longest_digest_bits(family)) // 8, **given).hex()
         more = [*(["-l", str(bits)] if bits else []), *(["--salt", salt.hex()] if salt else []),
-                *(deriving(context) if context else []), "-a", f"blake2{family}"]
+                *(derive_key_option(context) if context else []), "-a", f"blake2{family}"]
         said = SHORT if bits == 64 else ""
-        runs.wants([*more, "--key-file", "key", "--expect", mac, "b"], "b: OK\n", said)
-        runs.wants([*more, "--key-file=-", "--expect", mac, "a", "b"], "a: FAILED\nb: OK\n", said, 1, data=SECRET[:32])
-        runs.wants([*more[:-2], "-a", f"blake2{family}", "--key-hex-file=-", "--expect", mac, "b"], "b: OK\n", said,
+        runs.expect_run([*more, "--key-file", "key", "--expect", mac, "b"], "b: OK\n", said)
+        runs.expect_run([*more, "--key-file=-", "--expect", mac, "a", "b"], "a: FAILED\nb: OK\n", said, 1,
+                        data=SECRET[:32])
+        runs.expect_run([*more[:-2], "-a", f"blake2{family}", "--key-hex-file=-", "--expect", mac, "b"], "b: OK\n",
+                        said,
                    data=SECRET[:32].hex().encode())
         if not context:  # the digest of another key
-            runs.wants([*more, "--key-file", "key", "--derive-key", "x", "--expect", mac, "b"], "b: FAILED\n", said, 1)
-    runs.ends("expected digests with other options")
+            runs.expect_run([*more, "--key-file", "key", "--derive-key", "x", "--expect", mac, "b"], "b: FAILED\n",
+                            said, 1)
+    runs.report_results("expected digests with other options")
 
 
-def test_refused(runs):
+def test_wrong_options_are_refused(runs):
     """Words that are refused: nothing is printed but why."""
     runs.write("key", SECRET[:32])
     for words, said in WRONG.items():
         for end in (["b"], []) if not words.endswith("-") else ([],):
-            runs.wants([*words.split(), *end], "", said, 1, **({} if "\n" in said else {"Try": 1}))
+            runs.expect_run([*words.split(), *end], "", said, 1, **({} if "\n" in said else {"Try": 1}))
     for name, words in (("--derive-key", ["--key-file", "key"]), ("--expect", [])):
-        runs.wants([*words, name], "", f"option '{name}' requires an argument", 1, Try=1)
+        runs.expect_run([*words, name], "", f"option '{name}' requires an argument", 1, Try=1)
     for start, names in (("--d", "derive-key"), ("--e", "expect"), ("--exp", "expect"), ("--de", "derive-key")):
         got = runs.run(["--key-file", "key", f"{start}="])
-        runs.holds(start, got[0] == b"" and got[2] == 1 and got[1].startswith(
+        runs.expect(start, got[0] == b"" and got[2] == 1 and got[1].startswith(
             b"b2sum: invalid context: ''" if names == "derive-key" else b"b2sum: invalid digest: ''"), got)
     for words in (["--key-file", "-"], ["--key-hex-file=-", "--derive-key", "x"]):
-        runs.wants([*words, "--expect", WHOLE], "", "standard input is the key, and cannot be a file too", 1, Try=1)
-    runs.ends("what is refused of derived keys and expected digests")
+        runs.expect_run([*words, "--expect", WHOLE], "", "standard input is the key, and cannot be a file too", 1,
+                        Try=1)
+    runs.report_results("what is refused of derived keys and expected digests")
 
 
 # ---- Secrets.
 
-def test_command_line(runs):
+def test_key_is_not_on_command_line(runs):
     """Neither key is where other users may see it."""
     os.mkfifo(runs.path("pipe"))
     for family in HASHES[:2]:
@@ -332,14 +340,15 @@ def test_command_line(runs):
                     pass
             pipe.write(b"abc")
         out = process.communicate(timeout=100)
-        runs.holds(words, b"records" in seen and not any(
+        runs.expect(words, b"records" in seen and not any(
             it[at:at + 8] in seen or it[at:at + 8].hex().encode() in seen.lower()
             for it in (SECRET, key) for at in range(len(it) - 7)), seen)
-        runs.holds(words, out == (line("pipe", b"abc", longest(family), family, tag=True, key=key).encode(), b""), out)
-    runs.ends("keys on the command line")
+        runs.expect(words, out == (manifest_line("pipe", b"abc", longest_digest_bits(family), family, tag=True,
+                                                 key=key).encode(), b""), out)
+    runs.report_results("keys on the command line")
 
 
-def test_secrets(runs):
+def test_keys_leave_memory(runs):
     """The key of the file is nowhere in memory once the other one is derived, and that one is there only while it is
     used. At the end there is none of them, and no digits of one."""
     runs.write("long", bytes(200000))
@@ -349,38 +358,38 @@ def test_secrets(runs):
         digits = SECRET.hex().encode()
         runs.write("key", digits + b"\n" if "hex" in form else SECRET)
         words = ["-a", f"blake2{family}", form, "key", "--derive-key", "records"]
-        bits = longest(family)
-        text = os.fsencode("".join(line(name, data, bits, family, tag=True, key=key) for name, data in (
+        bits = longest_digest_bits(family)
+        text = os.fsencode("".join(manifest_line(name, data, bits, family, tag=True, key=key) for name, data in (
             ("long", bytes(200000)), ("b", b"abc"))))
         runs.write("sums", text)
-        runs.write("sealed", text + seal(text, key))
+        runs.write("sealed", text + seal_line(text, key))
         mac = digest(family, bytes(200000), bits // 8, key=key).hex()
         for more in (["long", "b", "-"], ["-c", "sums"], ["--seal", "long", "b"], ["-c", "--sealed", "sealed"],
                      ["--expect", mac, "long"]):
             most, ends = 0, {}
             for call in ("readv", "close"):
                 for at in itertools.count(1):
-                    found = {name: scan_memory(runs, words + more, it, call, at) for name, it in (
+                    found = {name: key_copies_and_dump_flags(runs, words + more, it, call, at) for name, it in (
                         ("file", SECRET), ("derived", key), ("digits", digits[:64]))}
                     if not found["file"]:
                         break
                     ends[call] = at
-                    runs.holds([*words, *more, call, at, found], all(it[1:] == (0, 0) for it in found.values()))
+                    runs.expect([*words, *more, call, at, found], all(it[1:] == (0, 0) for it in found.values()))
                     most = max(most, found["derived"][0])
                     if (call, at) > ("readv", 3):  # the reads of the key are over, as is the first close
-                        runs.holds([*words, *more, "the file's key", call, at, found],
+                        runs.expect([*words, *more, "the file's key", call, at, found],
                                    found["file"][0] == found["digits"][0] == 0)
-            runs.holds([*words, *more, most, ends], most >= sizes[family] // 8 and ends["readv"] > 3)
+            runs.expect([*words, *more, most, ends], most >= sizes[family] // 8 and ends["readv"] > 3)
             for at in (ends["close"] - 1, ends["close"]):
                 for secret in (SECRET, key, digits[:64], key.hex().encode()[:64]):
-                    found = scan_memory(runs, words + more, secret, "close", at)
-                    runs.holds([*words, *more, "the end", at], found == (0, 0, 0), found)
-    runs.ends("derived keys in memory")
+                    found = key_copies_and_dump_flags(runs, words + more, secret, "close", at)
+                    runs.expect([*words, *more, "the end", at], found == (0, 0, 0), found)
+    runs.report_results("derived keys in memory")
 
 
 # ---- Faults.
 
-def shows_failure(got, whole, good, call):
+def is_failure_reported(got, whole, good, call):
     """Whether a run in which a call failed shows it: no line is printed that may not be, and nothing is sealed. A file
     whose closing fails was read, and the run fails at its end."""
     printed = got[0].splitlines(True)
@@ -389,7 +398,7 @@ def shows_failure(got, whole, good, call):
         got[1] != b"" or call in ("close", "write"))
 
 
-def commands(runs):
+def commands_with_allowed_lines(runs):
     """Command lines with the new options, and what lines each may print."""
     names = [f"f{number}" for number in range(12)]
     for number, name in enumerate(names):
@@ -420,37 +429,39 @@ def commands(runs):
     yield [*with_key, "-a", "blake2sp", "--recursive", "tree", "--recursive", "tree/d"]
 
 
-def fail_in_turn(runs, words, call, error, whole, good):
+def fail_each_call_in_turn(runs, words, call, error, whole, good):
     """Each call of this function fails, or of five one, alone and with all later ones. Returns how many did."""
     count = 0
     for at in itertools.count(1, 1 if HUGE else 5):
-        found = [outcome_of_fault(runs, words, b"", call, at, last, error) for last in (at, 1 << 30)]
+        found = [run_and_faults_said(runs, words, b"", call, at, last, error) for last in (at, 1 << 30)]
         if not found[0]:
             return count
         for (got, said), is_one in zip(found, (True, False)):
             count += 1
             may_pass = not error or is_one and (said == "+" or call in ("malloc", "realloc", "close"))
-            runs.holds([*words, call, at, error, is_one, said], shows_failure(got, whole, good, call) or
+            runs.expect([*words, call, at, error, is_one, said], is_failure_reported(got, whole, good, call) or
                        may_pass and got == whole, got)
 
 
-def test_faults(runs):
+def test_each_failed_call_is_reported(runs):
     """Each call of the system fails in turn, alone and with all later ones."""
     calls = {"openat": (errno.EACCES, errno.EMFILE), "readv": (errno.EIO, 0), "write": (errno.ENOSPC,),
              "malloc": (errno.ENOMEM,), "realloc": (errno.ENOMEM,), "readdir": (errno.EIO,), "close": (errno.EIO,)}
     faults = 0
-    for words in commands(runs):
+    for words in commands_with_allowed_lines(runs):
         whole = runs.run(words)
         good = {*whole[0].splitlines(True), *(text[:-3] + b"FAILED open or read\n" for text in whole[0].splitlines(True)
                                               if text.endswith(b": OK\n"))}
-        runs.holds(words, whole[2] == 0 and whole[0], whole)
+        runs.expect(words, whole[2] == 0 and whole[0], whole)
         for call, errors in calls.items():
             for error in errors if HUGE else errors[:1]:
-                faults += fail_in_turn(runs, words, call, error, whole, good)
-    runs.holds("faults", not HUGE or faults >= 1000, faults)
-    runs.ends(f"{faults} calls that fail")
+                faults += fail_each_call_in_turn(runs, words, call, error, whole, good)
+    runs.expect("faults", not HUGE or faults >= 1000, faults)
+    runs.report_results(f"{faults} calls that fail")
 
 
-FAULTY = (test_secrets, test_faults)
-run_tests((test_derived, test_contexts, test_tool, test_key_files, test_seals, test_expected, test_expected_options,
-           test_refused, test_command_line, *FAULTY), faulty=FAULTY)
+FAULTY = (test_keys_leave_memory, test_each_failed_call_is_reported)
+run_program_tests((test_derived_keys_of_every_length, test_contexts_of_any_bytes, test_b2_derive_gives_same_key,
+                   test_bad_key_files_are_refused, test_seal_holds_only_for_its_key, test_expected_digest_is_compared,
+                   test_expected_digest_with_other_options,
+           test_wrong_options_are_refused, test_key_is_not_on_command_line, *FAULTY), faulty=FAULTY)

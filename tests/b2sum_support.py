@@ -21,7 +21,7 @@ FILES = {"a": b"", "b": b"abc", "with\nline": b"x" * 1000, "caf\udcff": bytes(ra
 
 
 @contextlib.contextmanager
-def programs(given, name="b2sum"):
+def programs_to_test(given, name="b2sum"):
     """The programs at these paths or, if there are none, those of dist/ that this processor runs, assembled in a folder
     that each user can read, and the `b2` that `rt ci` has built."""
     with tempfile.TemporaryDirectory() as folder:
@@ -37,7 +37,7 @@ def programs(given, name="b2sum"):
         yield [os.path.abspath(program) for program in given]
 
 
-class Runs:
+class ProgramRuns:
     """Runs of a program in a folder that has FILES."""
 
     def __init__(self, program, folder):
@@ -63,33 +63,33 @@ class Runs:
         done = subprocess.run([called, *words], executable=self.program, cwd=self.folder, **more)
         return done.stdout or b"", done.stderr or b"", done.returncode
 
-    def wants(self, words, out, err="", status=0, data=b"", **more):
+    def expect_run(self, words, out, err="", status=0, data=b"", **more):
         """A run that has to print these texts and end with this status. Each line of `err` is a message."""
         err = b"".join(b"b2sum: " + os.fsencode(line) + b"\n" for line in err.splitlines())
         if more.pop("Try", False):
             err += b"Try 'b2sum --help' for more information.\n"
         wanted, got = (os.fsencode(out), err, status), self.run(words, data, **more)
-        self.holds(f"{words}\n  wanted {wanted}", got == wanted, got)
+        self.expect(f"{words}\n  wanted {wanted}", got == wanted, got)
 
-    def run_within(self, kib, words, data=b""):
+    def run_in_memory_limit(self, kib, words, data=b""):
         """A run in this many KiB of address space."""
         return self.run(words, data, preexec_fn=lambda: resource.setrlimit(resource.RLIMIT_AS, (kib << 10,) * 2))
 
-    def least_room(self, words, wanted):
+    def least_memory_limit(self, words, wanted):
         """The fewest KiB, up to 16 more, in which a run ends like this."""
         low, high = 0, 1 << 16
         while high - low > 16:
             middle = (low + high) // 2
-            low, high = (low, middle) if self.run_within(middle, words) == wanted else (middle, high)
+            low, high = (low, middle) if self.run_in_memory_limit(middle, words) == wanted else (middle, high)
         return high
 
-    def holds(self, words, condition, got=""):
+    def expect(self, words, condition, got=""):
         """A condition of a run."""
         self.count += 1
         if not condition:
             self.wrong.append(f"{words}\n  got {got}")
 
-    def ends(self, name):
+    def report_results(self, name):
         """One test of all runs so far."""
         label = f"{os.path.basename(self.program)}: {name} ({self.count} runs)"
         tap.result(self.count and not self.wrong, label, "\n".join(self.wrong[:5])[:6000])
@@ -97,7 +97,7 @@ class Runs:
 
 
 @contextlib.contextmanager
-def filled_pipe(runs, name, commands):
+def pipe_filled_by_commands(runs, name, commands):
     """Commands of a shell write to a pipe, and are ended: they wait for a reader if there was none."""
     process = subprocess.Popen(["sh", "-c", f"exec >{name}; {commands}"], cwd=runs.folder, start_new_session=True)
     try:
@@ -107,16 +107,16 @@ def filled_pipe(runs, name, commands):
         process.wait()
 
 
-def fault_variables(runs, call="", at=0, last=0, error=0, key=""):
+def environment_with_fault(runs, call="", at=0, last=0, error=0, key=""):
     """The environment for a run in which these calls of a function fail, if any: see tests/b2sum_faults.c."""
     return {"LC_ALL": "C", "LD_PRELOAD": os.environ["FAULTS"], "FAULT_CALL": call, "FAULT_AT": str(at),
             "FAULT_LAST": str(last), "FAULT_ERROR": str(error), "FAULT_OUT": runs.path("out"),
             **({"FAULT_KEY": key} if key else {})}
 
 
-def outcome_of_fault(runs, words, data, call, at, last, error, called="b2sum", key="", **more):
+def run_and_faults_said(runs, words, data, call, at, last, error, called="b2sum", key="", **more):
     """A run in which these calls of a function fail, and what is said of them; or nothing if it makes no such call."""
-    got = runs.run(words, data, called, env=fault_variables(runs, call, at, last, error, key), **more)
+    got = runs.run(words, data, called, env=environment_with_fault(runs, call, at, last, error, key), **more)
     out = runs.path("out")
     if not os.path.exists(out):
         return None
@@ -126,22 +126,22 @@ def outcome_of_fault(runs, words, data, call, at, last, error, called="b2sum", k
     return got, said
 
 
-def run_with_fault(runs, *given, **more):
+def run_with_fault_or_none(runs, *given, **more):
     """The same run, with a key to look for and what is said of that; without a key only the run."""
-    found = outcome_of_fault(runs, *given, **more)
+    found = run_and_faults_said(runs, *given, **more)
     return found if more.get("key") else found and found[0]
 
 
-def scan_memory(runs, words, key, call, at):
+def key_copies_and_dump_flags(runs, words, key, call, at):
     """What a run has in its memory at a call: the number of pieces of the key, whether the process can be dumped, and
     whether it can leave a core file; or nothing if there is no such call."""
     digits = bytes(255 - byte for byte in key).hex()
-    got = run_with_fault(runs, words, b"abc", call, at, at, 0, key=digits)
-    runs.holds([*words, call, at], not got or got[0][1:] == (b"", 0), got)
+    got = run_with_fault_or_none(runs, words, b"abc", call, at, at, 0, key=digits)
+    runs.expect([*words, call, at], not got or got[0][1:] == (b"", 0), got)
     return got and tuple(map(int, got[1].split()))
 
 
-def escaped(name):
+def escaped_name(name):
     for byte, text in (("\\", "\\\\"), ("\n", "\\n"), ("\r", "\\r")):
         name = name.replace(byte, text)
     return name
@@ -157,7 +157,7 @@ def digest(family, data, size, **parameters):
     return getattr(hashlib, "blake2" + family)(data, digest_size=size, **parameters).digest()
 
 
-def longest(family):
+def longest_digest_bits(family):
     """The bits of the longest digest of a family."""
     return 256 if family[0] == "s" else 512
 
@@ -165,25 +165,26 @@ def longest(family):
 @functools.cache
 def derived_key(key, context, family="b"):
     """The key of the digests of a family that --derive-key makes for a context from the key of a file."""
-    return output(B, longest(family) // 8, Input(os.fsencode(context), key))
+    return output(B, longest_digest_bits(family) // 8, Input(os.fsencode(context), key))
 
 
-def needs_of_tag(key=b"", salt=b"", person=b""):
+def parameter_words_in_tag(key=b"", salt=b"", person=b""):
     """What a tag says of the parameters of a digest."""
     return ("-key" if key else "") + ("-salt" if salt else "") + ("-personal" if person else "")
 
 
-def line(name, data, bits=512, family="b", mark=" ", tag=False, **parameters):
+def manifest_line(name, data, bits=512, family="b", mark=" ", tag=False, **parameters):
     """The line of a file. That of a root is always tagged."""
     digits = digest(family, data, bits // 8, **parameters).hex()
-    start = "\\" if escaped(name) != name else ""
+    start = "\\" if escaped_name(name) != name else ""
     if tag or family.startswith("tree-"):
-        tag = f"BLAKE2{'b-' * family.startswith('tree-')}{family}{needs_of_tag(**parameters)}"
-        return f"{start}{tag}{'' if bits == longest(family) else f'-{bits}'} ({escaped(name)}) = {digits}\n"
-    return f"{start}{digits} {mark}{escaped(name)}\n"
+        tag = f"BLAKE2{'b-' * family.startswith('tree-')}{family}{parameter_words_in_tag(**parameters)}"
+        length = "" if bits == longest_digest_bits(family) else f"-{bits}"
+        return f"{start}{tag}{length} ({escaped_name(name)}) = {digits}\n"
+    return f"{start}{digits} {mark}{escaped_name(name)}\n"
 
 
-def shown_of(name, data, shape, family, bits, given):
+def expected_file_output(name, data, shape, family, bits, given):
     """What is printed of a file with these options."""
     found = digest(family, data, bits // 8, **given)
     if "--raw" in shape:
@@ -191,31 +192,32 @@ def shown_of(name, data, shape, family, bits, given):
     end = "\0" if "-z" in shape else "\n"
     if "--no-names" in shape:
         return (found.hex() + end).encode()
-    text = line("NAME" if "-z" in shape else name, data, bits, family, "*" if "-b" in shape else " ", "--tag" in shape,
+    text = manifest_line("NAME" if "-z" in shape else name, data, bits, family, "*" if "-b" in shape else " ",
+                         "--tag" in shape,
                 **given)
     return os.fsencode(text.removesuffix("\n").replace("NAME", name) + end)
 
 
-def check_line(name, outcome="OK"):
+def check_result_line(name, outcome="OK"):
     """The line of a file in a check."""
-    return ("\\" if "\n" in name else "") + (escaped(name) if "\n" in name else name) + f": {outcome}\n"
+    return ("\\" if "\n" in name else "") + (escaped_name(name) if "\n" in name else name) + f": {outcome}\n"
 
 
-def both_digests(listed, found):
+def expected_and_found_lines(listed, found):
     """The lines of --show-digests after that of a file whose digest is another than its entry's."""
     return f"  expected: {listed.hex()}\n  found:    {found.hex()}\n"
 
 
-def lines(**more):
-    return "".join(line(name, data, **more) for name, data in FILES.items())
+def manifest_lines(**more):
+    return "".join(manifest_line(name, data, **more) for name, data in FILES.items())
 
 
-def root_line(name, data, leaf, bits=512, **texts):
+def tree_manifest_line(name, data, leaf, bits=512, **texts):
     """The line of the root of a tree."""
-    return line(name, data, bits, f"tree-{leaf}", **texts)
+    return manifest_line(name, data, bits, f"tree-{leaf}", **texts)
 
 
-def damage_line(rng, line):
+def damaged_line(rng, line):
     """A line of a manifest with one of many damages, of which the last ones are at a place in it."""
     at, one_of = rng.randrange(len(line) + 1), lambda *texts: rng.choice(texts)
     return rng.choice([
@@ -232,10 +234,10 @@ def damage_line(rng, line):
         lambda: one_of(line[:at], line[:at] + line[at + 1:])])()
 
 
-def run_tests(tests, others=(), faulty=()):
+def run_program_tests(tests, others=(), faulty=()):
     """Runs tests of the programs that the command line names, or of those of dist/: all of them for the first program,
     and the others for the rest. The faulty ones need the library FAULTS, which is built first."""
-    with tempfile.TemporaryDirectory() as work, programs(sys.argv[1:]) as built:
+    with tempfile.TemporaryDirectory() as work, programs_to_test(sys.argv[1:]) as built:
         os.environ["FAULTS"] = os.path.join(work, "faults.so")
         has_faults = not faulty or shutil.which("cc") and subprocess.run(
             ["cc", "-shared", "-fPIC", "-O1", "-Wl,-z,now", os.path.join(TOP, "tests", "b2sum_faults.c"), "-o",
@@ -246,5 +248,5 @@ def run_tests(tests, others=(), faulty=()):
                     tap.result(True, "calls that fail", skipped="no cc")
                     continue
                 with tempfile.TemporaryDirectory() as folder:
-                    test(Runs(program, folder))
+                    test(ProgramRuns(program, folder))
     tap.finish()

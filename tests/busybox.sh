@@ -7,7 +7,7 @@ tools=$work/tools
 repository=$work/repository
 
 # A folder with only those tools.
-make_tools() {
+make_busybox_tool_folder() {
     local tool
     mkdir "$tools" || return 1
     for tool in $(busybox --list); do ln -s "$(command -v busybox)" "$tools/$tool" || return 1; done
@@ -23,24 +23,24 @@ make_repository() {
 # Runs a command with only those tools.
 with_these_tools() { (cd "$repository" && env -i PATH="$tools" HOME="$work" "$@"); }
 
-programs_run() {
+programs_work_with_busybox() {
     with_these_tools ./b2sum "$work/abc" >"$work/sums" && sums_by_hashlib "$work/abc" | diff "$work/sums" - &&
         with_these_tools ./b2sum --check "$work/sums"
 }
 
 # `make install`, under a mask that keeps files from others, which is not that of what is installed.
-make_installs() {
+make_installs_with_busybox() {
     local place=$work/a\ prefix
     (umask 077 && with_these_tools make -s install "prefix=$place") &&
-        files_below "$place" | diff <(files_of_all) - &&
-        [ -z "$(find "$place" \( -type d -o -type f \) ! -perm -o=r)" ] && are_copies "$place" &&
+        files_below "$place" | diff <(files_of_full_installation) - &&
+        [ -z "$(find "$place" \( -type d -o -type f \) ! -perm -o=r)" ] && installed_scripts_are_copies "$place" &&
         [ "$(cat "$place/share/man/man3/vulfsjor_blake2b_init.3")" = ".so man3/vulfsjor_blake2b.3" ] &&
         "$place/bin/b2sum" "$work/abc" | diff - <(sums_by_hashlib "$work/abc") &&
         with_these_tools make -s uninstall "prefix=$place" && [ -z "$(find "$place" ! -type d)" ]
 }
 
 # The library that make has built: the same files as with the tools here, and all of them go again.
-installs() {
+library_installs_with_busybox() {
     with_these_tools c/install.sh --help | grep '^Installs the library' &&
         with_these_tools c/install.sh --built out/make/lib "$work/again/./x/../lib" &&
         diff -r "$prefix" "$work/again/lib" &&
@@ -51,7 +51,7 @@ installs() {
 
 # Without one of the tools nothing is built or installed, its name is printed, and dist/ is not
 # blamed.
-names_what_is_missing() {
+missing_tools_are_named() {
     local tool
     for tool in awk cat cut diff find sed sha256sum sort xargs mktemp cc; do
         mv "$tools/$tool" "$work/hidden" && rm -rf "$repository/out" "$work/none"
@@ -68,7 +68,7 @@ names_what_is_missing() {
 
 # Tools that are there and fail: dist/ is not blamed by b2sum, nor a list of functions by make_libraries.sh.
 # diff only shows what differs.
-fails_to_compare() {
+failing_tools_are_reported() {
     local call tool
     for call in {awk,cat,cut,find,sed,sha256sum,sort,xargs}:"./b2sum $work/abc" \
         {awk,basename,cat,sed,sort}:"c/make_libraries.sh $work/none $top/dist/x86_64/vulfsjor-v2.s"; do
@@ -83,7 +83,7 @@ fails_to_compare() {
 }
 
 # An archive has all its parts, or is not made: with a stand-in for awk that loses those of one text.
-has_all_parts() {
+archive_is_complete_or_not_made() {
     local lost
     mv "$tools/awk" "$work/awk" || return 1
     for lost in choose.c split.awk; do
@@ -96,7 +96,7 @@ has_all_parts() {
 }
 
 # The library over musl, with one build, with the example of the guide; and b2sum, which has all, with threads.
-musl() {
+library_works_over_musl() {
     local folder=$work/musl words
     echo abc >"$work/abc"
     export CFLAGS=$quick
@@ -106,7 +106,7 @@ musl() {
         # shellcheck disable=SC2086
         musl-gcc -O2 $words "${warnings[@]}" -I"$folder/include" "$work/hello.c" \
             "$folder/lib/libvulfsjor.a" -o "$work/hello" && "$work/hello" >"$work/said" &&
-            diff "$work/said" <(wanted_of_readme) || return 1
+            diff "$work/said" <(readme_example_digest) || return 1
     done
     CC="musl-gcc -static" "$top/b2sum" --build "$work/b2sum" &&
         "$work/b2sum" "$work/abc" | diff - <(sums_by_hashlib "$work/abc") &&
@@ -114,22 +114,22 @@ musl() {
         sed 's/.* = //' | diff - <(roots_by_hashlib 65536 "$work/long" | cut -d ' ' -f 1)
 }
 
-test_busybox() {
+test_with_busybox_tools() {
     if has busybox && has python3 && has make; then
-        check "a folder with BusyBox's tools" make_tools && make_repository || return
-        check "b2sum" programs_run
-        check "make install" make_installs
-        check "c/install.sh" installs
-        check_huge "a tool that is missing is named" names_what_is_missing
-        check_huge "a comparison that fails is not a difference" fails_to_compare
+        check "a folder with BusyBox's tools" make_busybox_tool_folder && make_repository || return
+        check "b2sum" programs_work_with_busybox
+        check "make install" make_installs_with_busybox
+        check "c/install.sh" library_installs_with_busybox
+        check_huge "a tool that is missing is named" missing_tools_are_named
+        check_huge "a comparison that fails is not a difference" failing_tools_are_reported
         needs
         is_x86 || missing="the processor is not x86-64"
-        check "an archive has all its parts" has_all_parts
+        check "an archive has all its parts" archive_is_complete_or_not_made
     else
         skip "the scripts with BusyBox's tools with_these_tools" "no busybox, python3 or make"
     fi
     needs musl-gcc python3
-    check "the library, threads and b2sum over musl" musl
+    check "the library, threads and b2sum over musl" library_works_over_musl
 }
 
-part test_busybox
+run_part_of_tests test_with_busybox_tools

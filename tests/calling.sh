@@ -15,7 +15,7 @@ cd "$work/other" || exit 1
 git init -q .
 
 # The blocks of the page in this language, each ended by a line of three hyphens.
-blocks() {
+code_blocks_of_page() {
     awk -v fence="\`\`\`$1" \
         '$0 == "```" { if (inside) print "---"; inside = 0 }
         inside { print }
@@ -23,10 +23,10 @@ blocks() {
 }
 
 # Makes the crate app from the page's callers that are whole files: a module for each.
-callers() {
+make_crate_from_callers() {
     mkdir -p crates/app/src
     printf '//! The callers of the page.\n#![tactic(auto)]\n\n' >crates/app/src/lib.rt
-    blocks rust | awk -v folder=crates/app/src '
+    code_blocks_of_page rust | awk -v folder=crates/app/src '
         /^---$/ { file = ""; next }
         /^#!\[tactic\(auto\)\]$/ {
             file = folder "/caller" ++count ".rt"
@@ -37,8 +37,8 @@ callers() {
         file != "" { print > file }'
 }
 
-blocks sh | grep -v '^---$' >../recipe.sh
+code_blocks_of_page sh | grep -v '^---$' >../recipe.sh
 check "the commands of the page" bash -eu ../recipe.sh
-callers
+make_crate_from_callers
 check "rt all check" rt all check
 finish

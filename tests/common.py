@@ -13,7 +13,7 @@ from read_sources import TOP, Unreadable, read, version  # noqa: E402, F401
 
 
 @dataclass(frozen=True)
-class Family:
+class FamilySizes:
     """The numbers of a family that its callers meet (RFC 7693, 2.1; the BLAKE2 document, 2.8), in bytes."""
     function: Callable  # of hashlib
     block: int
@@ -21,7 +21,7 @@ class Family:
     salt: int  # the longest salt, and the longest persona
 
 
-FAMILIES = {"b": Family(hashlib.blake2b, 128, 64, 16), "s": Family(hashlib.blake2s, 64, 32, 8)}
+FAMILIES = {"b": FamilySizes(hashlib.blake2b, 128, 64, 16), "s": FamilySizes(hashlib.blake2s, 64, 32, 8)}
 
 # The KINDs that more commands than `witness` accept: the family's letter, and the bytes of the digest.
 KINDS = {"b128": ("b", 16), "b256": ("b", 32), "b512": ("b", 64), "s128": ("s", 16), "s256": ("s", 32)}

@@ -32,7 +32,7 @@ import tempfile
 
 import b2sum_support
 import tap
-from b2sum_support import damage_line, programs
+from b2sum_support import damaged_line, programs_to_test
 
 HUGE = bool(os.environ.get("VULFSJOR_TEST_HUGE"))
 NAMES = [
@@ -77,7 +77,7 @@ def difference_from_coreutils(program, words, folder, data=b"", user=None):
                                               f"  theirs {theirs}\n"
 
 
-def write(folder, name, data):
+def write_file(folder, name, data):
     with open(os.path.join(os.fsencode(folder), name), "wb") as file:
         file.write(data)
 
@@ -98,7 +98,7 @@ def make_files(rng, folder):
     sizes = [0, 1, 3, 127, 128, 129, 255, 256, 257, 1000] + [65535, 65536, 65537] * (rng.random() < 0.1)
     files = {name: rng.randbytes(rng.choice(sizes)) for name in names}
     for name, data in files.items():
-        write(folder, name, data)
+        write_file(folder, name, data)
     os.mkdir(os.path.join(folder, b"dir"))
     os.symlink(b"loop", os.path.join(folder, b"loop"))
     os.symlink(b"nothing", os.path.join(folder, b"dangling"))
@@ -109,14 +109,14 @@ def make_files(rng, folder):
 
 # ---- Manifests.
 
-def line_of(rng, name, data):
+def manifest_line_in_random_style(rng, name, data):
     """A line of a manifest for a file of this name, in one of three styles."""
     bits = rng.choice([512, 512, 8 * rng.randint(1, 64)])
-    return os.fsencode(b2sum_support.line(
+    return os.fsencode(b2sum_support.manifest_line(
         os.fsdecode(name), data, bits, mark=rng.choice(" *"), tag=rng.random() < 0.3).removesuffix("\n"))
 
 
-def is_left_out(line):
+def is_read_differently_by_design(line):
     """Whether our program and coreutils read this line or the next ones differently: the tag is another name or has a
     length in another form, or an untagged line is badly escaped, or names `-` after one blank."""
     line = line.lstrip(b" \t")
@@ -129,7 +129,7 @@ def is_left_out(line):
     return is_escaped and not re.fullmatch(rb"([^\\]|\\[\\nr])*", line, flags=re.DOTALL)
 
 
-def has_one_blank(line):
+def has_one_byte_before_name(line):
     """Whether an untagged line has one byte before its name, so that it decides so for the manifests after it too, in
     coreutils and not here."""
     line = re.sub(rb"^[ \t]*\\?", b"", line).removesuffix(b"\r")
@@ -144,16 +144,17 @@ def random_manifest(rng, files, is_only, is_input=False):
     for _ in range(rng.randint(0, 9)):
         others = UNREADABLE[:-2] + [b"-"] * names_input
         name = rng.choice(others if rng.random() < 0.2 else list(files))
-        line = line_of(rng, name, files.get(name, b""))
-        line = damage_line(rng, line) if rng.random() < share else line
-        lines.append(b"x" if is_left_out(line) or not is_only and has_one_blank(line) else line)
+        line = manifest_line_in_random_style(rng, name, files.get(name, b""))
+        line = damaged_line(rng, line) if rng.random() < share else line
+        lines.append(b"x" if is_read_differently_by_design(line) or not is_only and has_one_byte_before_name(line)
+                     else line)
     text = (b"\r\n" if rng.random() < 0.1 else b"\n").join(lines)
     return text + (rng.choice([b"\n", b"\n", b"\n", b"", b"\n\n", b"\r\n"]) if lines else b"")
 
 
 # ---- Command lines.
 
-def to_check(rng, folder, files):
+def random_check_arguments(rng, folder, files):
     options = [rng.choice([b"-c", b"--check", b"--ch"])] + [it for it in CHECKS if rng.random() < 0.2]
     if rng.random() < 0.05:
         options.append(rng.choice([b"-z", b"--tag", b"-b", b"-t", b"-l0"]))
@@ -161,7 +162,7 @@ def to_check(rng, folder, files):
     reads_input = not count or rng.random() < 0.15
     for k in range(count):
         names.append(rng.choice([b"sums", b"my sums", b"s'ums", b"s\nums"]) + b"%d" % k)
-        write(folder, names[-1], random_manifest(rng, files, count + reads_input == 1))
+        write_file(folder, names[-1], random_manifest(rng, files, count + reads_input == 1))
     if reads_input:
         data = random_manifest(rng, files, not count, True)
         names += [b"-"] if names else []
@@ -170,7 +171,7 @@ def to_check(rng, folder, files):
     return options, names, data
 
 
-def to_sum(rng, files):
+def random_digest_arguments(rng, files):
     options = [it for it in SUMS if rng.random() < 0.15]
     if rng.random() < 0.5:
         bits = b"%d" % rng.choice([8 * rng.randint(0, 66), rng.randint(0, 600), 256])
@@ -183,9 +184,10 @@ def to_sum(rng, files):
 
 
 def random_command(rng, folder, files):
-    options, names, data = to_check(rng, folder, files) if rng.random() < 0.55 else to_sum(rng, files)
+    options, names, data = random_check_arguments(rng, folder,
+                                                  files) if rng.random() < 0.55 else random_digest_arguments(rng, files)
     if rng.random() < 0.06:
-        options.append(rng.choice([it for it in WRONG if not demands_length([*options, it])]))
+        options.append(rng.choice([it for it in WRONG if not requires_digest_length([*options, it])]))
     rng.shuffle(names)
     names = [b"./" + it if it.startswith(b"-") and it != b"-" and rng.random() < 0.7 else it for it in names]
     if rng.random() < 0.15 and b"-l" not in options and b"--length" not in options:
@@ -195,7 +197,7 @@ def random_command(rng, folder, files):
     return options + ([b"--"] if rng.random() < 0.1 else []) + names, data
 
 
-def random_run(program, seed):
+def compare_random_run(program, seed):
     rng = random.Random(seed)
     with tempfile.TemporaryDirectory() as folder:
         files = make_files(rng, os.fsencode(folder))
@@ -204,17 +206,17 @@ def random_run(program, seed):
     return said and f"seed {seed}: {said}"
 
 
-def demands_length(words):
+def requires_digest_length(words):
     """Whether these are words of a check that demands a length, which that of coreutils never does."""
     lengths = [re.fullmatch(rb"(?:-l|--l\w*=)\s*\+?(\d+)", it) for it in words]
     return any(re.fullmatch(rb"-[bctwz]*c[bctwz]*|--c\w*", it) for it in words) and any(
         it and int(it[1]) in range(8, 513, 8) for it in lengths)
 
 
-def fixed_runs():
+def option_combinations():
     """The command lines of each option, each pair and each abbreviation, without their files."""
     yield from ([one] for one in OPTIONS)
-    yield from ([one, two] for one in OPTIONS for two in OPTIONS if not demands_length([one, two]))
+    yield from ([one, two] for one in OPTIONS for two in OPTIONS if not requires_digest_length([one, two]))
     yield from ([one, b"-c", two] for one in CHECKS for two in CHECKS)
     for option in LONG:
         name, equals, value = option.partition(b"=")
@@ -224,20 +226,21 @@ def fixed_runs():
                 yield [b"--" + name[:end] + b"=x", b"-c"]
 
 
-def option_runs(folder, every):
-    write(folder, b"one", b"abc")
+def runs_of_each_option(folder, every):
+    write_file(folder, b"one", b"abc")
     lines = subprocess.run(["/usr/bin/b2sum", "one", "--tag", "one"], cwd=folder, stdout=subprocess.PIPE).stdout
     lines += b"ab  none\nwrong line\n" + b"0" * 128 + b"  one\n"
-    write(folder, b"sums", lines)
-    return [(words + end, lines) for words in fixed_runs() for end in ([b"one", b"two"], [b"sums"], [])][::every]
+    write_file(folder, b"sums", lines)
+    return [(words + end, lines) for words in option_combinations()
+            for end in ([b"one", b"two"], [b"sums"], [])][::every]
 
 
-def closed_runs(folder):
+def runs_with_closed_input(folder):
     """Command lines with standard input closed, so that the first file that is opened has its number."""
     digits = hashlib.blake2b(b"abc").hexdigest().encode()
-    write(folder, b"one", b"abc")
+    write_file(folder, b"one", b"abc")
     for name, names in ((b"sums", (b"one", b"one")), (b"input", (b"one", b"-", b"one")), (b"more", (b"-", b"-"))):
-        write(folder, name, b"".join(digits + b"  " + it + b"\n" for it in names))
+        write_file(folder, name, b"".join(digits + b"  " + it + b"\n" for it in names))
     return [([*options, *names], None) for options in ([], [b"-c"], [b"-c", b"--status"])
             for names in ([], [b"-"], [b"one"], [b"one", b"-"], [b"-", b"one"], [b"-", b"-"], [b"none", b"-"],
                           [b"sums"], [b"input"], [b"more"], [b"sums", b"input"], [b"input", b"sums"])]
@@ -257,7 +260,7 @@ BLAKE2b-99999999999999999999 (f) = HALF|BLAKE2b-256 (f) = HIGH|BLAKE2b-256 (f) =
 BLAKE2sp (f) = WHOLE"""
 
 
-def manifest_forms():
+def manifest_line_forms():
     """Manifests for a file `f` of the bytes abc: lines of each form, what is almost one, and mixtures of them."""
     half, whole = (hashlib.blake2b(b"abc", digest_size=size).hexdigest().encode() for size in (32, 64))
     digests = {b"HALF": half, b"WHOLE": whole, b"UPPER": whole.upper(), b"ODD": half[:-1], b"LESS": half[:-2],
@@ -271,10 +274,10 @@ def manifest_forms():
     yield from (b"", b"\n", b"\n\n", b"\r\n", half + b"  f", half + b"  f\n\n" + whole + b"  f", b"#\n" * 3, b"x\n" * 3)
 
 
-def manifest_form_runs(folder, by_windows, every):
+def runs_of_manifest_forms(folder, by_windows, every):
     """Manifests of many forms, and lengths."""
-    write(folder, b"f", b"abc")
-    runs = [([b"-c", *more], text) for text in manifest_forms() for more in ([], [b"-w", b"--strict"])]
+    write_file(folder, b"f", b"abc")
+    runs = [([b"-c", *more], text) for text in manifest_line_forms() for more in ([], [b"-w", b"--strict"])]
     runs += [([b"-l", b"%d" % bits, *more, b"f"], b"") for bits in range(0, 1025) for more in ([], [b"--tag"])
              if bits % 56 == 0 or bits < 20 or bits % 8 == 0 and (HUGE or not more and bits < 530)]
     if by_windows:  # a name of Windows ends in no blank
@@ -282,7 +285,7 @@ def manifest_form_runs(folder, by_windows, every):
     return runs
 
 
-def compare(program, pool, title, runs_in, *given):
+def compare_runs(program, pool, title, runs_in, *given):
     """Compares the command lines, with their inputs, that a function makes for a folder."""
     with tempfile.TemporaryDirectory() as folder:
         runs = runs_in(folder, *given)
@@ -305,17 +308,17 @@ def main():
     options, forms = "command lines of options and pairs of them", "manifests and lengths"
     if given.by:
         for program in given.program:
-            compare([given.by, program], pool, options, option_runs, given.every)
-            compare([given.by, program], pool, forms, manifest_form_runs, True, given.every)
+            compare_runs([given.by, program], pool, options, runs_of_each_option, given.every)
+            compare_runs([given.by, program], pool, forms, runs_of_manifest_forms, True, given.every)
         tap.finish()
-    with programs(given.program) as built:
+    with programs_to_test(given.program) as built:
         for number, program in enumerate(built):
             if number == 0:
-                compare(program, pool, options, option_runs, 1 if HUGE else 4)
-                compare(program, pool, "command lines without standard input", closed_runs)
-                compare(program, pool, forms, manifest_form_runs, False, 1)
+                compare_runs(program, pool, options, runs_of_each_option, 1 if HUGE else 4)
+                compare_runs(program, pool, "command lines without standard input", runs_with_closed_input)
+                compare_runs(program, pool, forms, runs_of_manifest_forms, False, 1)
             runs = (5000 if HUGE else 200) // (10 if number else 1)
-            said = list(filter(None, pool.map(lambda seed: random_run(program, seed), range(runs))))
+            said = list(filter(None, pool.map(lambda seed: compare_random_run(program, seed), range(runs))))
             tap.result(not said, f"{program}: {runs} random command lines", f"{len(said)} differ\n" + "".join(said[:9]))
     tap.finish()
 

@@ -26,32 +26,32 @@ for crate in blake2_state b2_commands blake2_ffi b2 b2sum beside; do
 done
 cd "$repository" || exit 1
 # What a command prints that the script could run.
-run_in_script() {
+run_with_script_functions() {
     sed '/^case \${1-},\$#/,$d' tools/dist.sh >tools/parts.sh
     echo "$1" >>tools/parts.sh
     bash tools/parts.sh
 }
-made=$(run_in_script 'printf "%s\n" "${files[@]}"')
-files="$made $(run_in_script 'printf "%s\n" "${by_hand[@]}"')"
-around=$(run_in_script 'printf "%s\n" "${around[@]}"')
+made=$(run_with_script_functions 'printf "%s\n" "${files[@]}"')
+files="$made $(run_with_script_functions 'printf "%s\n" "${by_hand[@]}"')"
+around=$(run_with_script_functions 'printf "%s\n" "${around[@]}"')
 for file in $files $around; do
     mkdir -p "$(dirname "dist/$file")" && { [ -e "dist/$file" ] || echo "$file" >"dist/$file"; }
 done
 (
     echo "# kit: kit 1"
-    echo "# sources: $(run_in_script sources)"
+    echo "# sources: $(run_with_script_functions hash_of_sources)"
     cd dist && sha256sum $files $around
 ) >dist/MANIFEST
 
 dist() { tools/dist.sh "$@" >"$work/shown" 2>&1; }
 # A run with a status, that shows a line with these words: STATUS LINE ARGUMENTS..
-ends() {
+dist_ends_with() {
     dist "${@:3}"
     [ $? -eq "$1" ] && grep -qF -- "$2" "$work/shown"
 }
 # Whether a change of a file, made by sed, is found by `current`, or another command, (1) or not (0); it is taken back.
 # One of what is around dist/ is found, and after `sums` only if it is a source too (1+) and not otherwise (1-).
-changed() {
+change_is_detected() {
     local file=$2 status wanted=$1
     cp "$file" "$work/kept" && cp dist/MANIFEST "$work/sums"
     sed -i "$3" "$file"
@@ -67,9 +67,10 @@ changed() {
 
 check "dist/ with its MANIFEST is current" dist current
 check "what cannot be compared is no difference" eval 'mv tools/scalar.sed "$work/kept" &&
-    ends 2 "dist.sh: dist/ could not be compared with these sources" current' && mv "$work/kept" tools/scalar.sed
+    dist_ends_with 2 "dist.sh: dist/ could not be compared with these sources" \
+    current' && mv "$work/kept" tools/scalar.sed
 # Without sha256sum, as on macOS.
-with_shasum() {
+dist_works_with_shasum() {
     local tool folder=$work/tools
     mkdir "$folder" && for tool in awk bash cat cut diff dirname env find mktemp readlink rm sed shasum sort xargs; do
         ln -s "$(command -v $tool)" "$folder/$tool"
@@ -78,21 +79,22 @@ with_shasum() {
 }
 cp dist/macros.h "$work/macros.h"
 needs shasum
-check "shasum will do for sha256sum" with_shasum
+check "shasum will do for sha256sum" dist_works_with_shasum
 needs
 cp "$work/macros.h" dist/macros.h
 # A table of changes: whether they are found (1) or not (0), the file, and what sed does.
-changes() {
+changes_are_detected_as_listed() {
     local found file edit
     while read -r found file edit; do
-        changed "$found" "$file" "$edit" || { echo "$file: $edit" && return 1; }
+        change_is_detected "$found" "$file" "$edit" || { echo "$file: $edit" && return 1; }
     done
 }
-check "a change of a file of dist/ is found" changes < <(printf '1 dist/%s $a more\n' $(some $files))
-check "so is one of what is around it, until it is noted" changes < <(
+check "a change of a file of dist/ is found" \
+    changes_are_detected_as_listed < <(printf '1 dist/%s $a more\n' $(some $files))
+check "so is one of what is around it, until it is noted" changes_are_detected_as_listed < <(
     printf '1- %s $a /* more */\n' $(some ${around//..\//}))
-check "but sums notes no file that is made" changed 1 dist/x86_64/b2.s '$a more' sums
-check "a change of a source is found, and no other" changes < <(
+check "but sums notes no file that is made" change_is_detected 1 dist/x86_64/b2.s '$a more' sums
+check "a change of a source is found, and no other" changes_are_detected_as_listed < <(
     printf '1 crates/%s/src/lib.rt $a fn more() {} // more\n' $(some b2 b2sum b2_commands blake2_ffi blake2_state)
     printf '1 %s $a # more\n' $(some \
         tools/{plain_names,clear_registers,object_formats,wasm_{format,values,body,to_c}}.py \
@@ -112,41 +114,41 @@ check "a change of a source is found, and no other" changes < <(
 END
 )
 mv dist/wasm/vulfsjor.wasm "$work/old"
-check "a file that is absent is found" ends 1 "there is no dist/wasm/vulfsjor.wasm" current
+check "a file that is absent is found" dist_ends_with 1 "there is no dist/wasm/vulfsjor.wasm" current
 mv "$work/old" dist/wasm/vulfsjor.wasm
 echo "fn more() {}" >crates/b2/more.rt
 check "a file next to src/ is not" dist current
 mv crates/blake2_ffi/src/{lib,more}.rt
-check "another name of a file is found" ends 1 "dist/ was not made from these sources: run make dist" current
+check "another name of a file is found" dist_ends_with 1 "dist/ was not made from these sources: run make dist" current
 mv crates/blake2_ffi/src/{more,lib}.rt
 
-check "without a toolchain only hashes are compared" ends 0 \
+check "without a toolchain only hashes are compared" dist_ends_with 0 \
     "only hashes were compared: dist/ was made with another toolchain, kit 1" check
-check "but these are" changed 1 dist/macros.h '$a\ ' check
+check "but these are" change_is_detected 1 dist/macros.h '$a\ ' check
 # Files that were made are compared byte for byte.
 cp -R dist "$work/made"
-compares_files() {
+made_files_are_compared() {
     local file
-    run_in_script "are_those_of '$work/made'" || return 1
+    run_with_script_functions "made_files_equal '$work/made'" || return 1
     for file in $made; do
-        echo >>"$work/made/$file" && ! run_in_script "are_those_of '$work/made'" >"$work/shown" 2>&1 &&
+        echo >>"$work/made/$file" && ! run_with_script_functions "made_files_equal '$work/made'" >"$work/shown" 2>&1 &&
             grep -F "$file" "$work/shown" && cp "dist/$file" "$work/made/$file" || return 1
     done
 }
-check "files that were made are compared byte for byte" compares_files
+check "files that were made are compared byte for byte" made_files_are_compared
 check "MANIFEST names every file of dist/ but itself and a page" diff <(cd "$top" && find dist ! -type d | sort) \
     <(printf '%s\n' MANIFEST README.md $files | sed 's|^|dist/|' | sort)
-check "make needs rt" ends 1 "the toolchain's command rt is not on the PATH" make
-check "help" ends 0 "tools/dist.sh current" --help
+check "make needs rt" dist_ends_with 1 "the toolchain's command rt is not on the PATH" make
+check "help" dist_ends_with 0 "tools/dist.sh current" --help
 for words in "" "make a" "check a" "what"; do
     # shellcheck disable=SC2086
-    check "the arguments '$words' are refused" ends 1 "dist.sh: " $words
+    check "the arguments '$words' are refused" dist_ends_with 1 "dist.sh: " $words
 done
 printf '#!/bin/sh\n[ "$1" != check ] || exit 1\n' >"$work/bin/rt" && chmod +x "$work/bin/rt"
 for file in x86_64/none.s x86_64/elf.inc vulfsjor.S; do
-    check "there is no file $file" ends 1 "there is no file $file in dist/" make "$work/some" $file
+    check "there is no file $file" dist_ends_with 1 "there is no file $file in dist/" make "$work/some" $file
 done
-check "a library that is not proved stops it" ends 1 "the crates below b2 are not proved" make \
+check "a library that is not proved stops it" dist_ends_with 1 "the crates below b2 are not proved" make \
     "$work/some" aarch64/b2.s
 
 # What hashes for the programs, in LLVM's text of the library and of a program.
@@ -156,10 +158,12 @@ text='define internal i64 @"blake2_tree::nodes::Nodes::hash_next"(ptr noundef %0
 define internal void @"a::hash_next"() #0 {
   ret void
 }'
-hashing() { run_in_script "write_sharing_edit $1" >hashing.sed && sed -f hashing.sed <<<"$text"; }
-check "the library exports what hashes" diff <(hashing blake2_ffi) - <<<"${text/internal /}"
+apply_sharing_edit() {
+    run_with_script_functions "write_sharing_edit $1" >hashing.sed && sed -f hashing.sed <<<"$text"
+}
+check "the library exports what hashes" diff <(apply_sharing_edit blake2_ffi) - <<<"${text/internal /}"
 for crate in b2 b2sum; do
-    check "$crate calls it, and has it not" diff <(hashing $crate) \
+    check "$crate calls it, and has it not" diff <(apply_sharing_edit $crate) \
         <(sed '1s/define internal \(.*\) #0 {/declare \1/;2,3d' <<<"$text")
 done
 finish

@@ -40,7 +40,7 @@ READMES_TOOLS = ("awk bash cat chmod cut diff dirname find grep mkdir mktemp mv 
                  "touch tr xargs cc as ld")
 
 
-def examples(text):
+def examples_of_page(text):
     """The examples of a page: for each the line, the language, the text, what it prints, or None, and its section."""
     found, last, section = [], None, 0
     for block in re.finditer(r"^#+ |^```(\w*)\n(.*?)^```$", text, re.M | re.S):
@@ -57,7 +57,7 @@ def examples(text):
     return found
 
 
-class Runner:
+class ExampleRunner:
     """Runs the examples of a page in a folder, against the installed library and the module for Python."""
 
     def __init__(self, name, text, work, repository):
@@ -77,12 +77,12 @@ class Runner:
         if self.is_shell:
             self.environment["TMPDIR"] = str(self.folder)
 
-    def begin(self):
+    def begin_page(self):
         """Begins the page, once more with another shell."""
         if self.is_shell:
             self.place, self.environment["PATH"] = self.repository, self.start
 
-    def with_folders(self, text):
+    def fill_in_folders(self, text):
         """A block with the folders that it names."""
         return re.sub(r"\bPATH\b", str(self.repository), text.replace("FOLDER", str(self.library)))
 
@@ -106,7 +106,7 @@ class Runner:
         return self.run_c(text, "c++", "hello.cpp", ())
 
     def run_cmake(self, text):
-        (self.folder / "CMakeLists.txt").write_text(self.with_folders(text))
+        (self.folder / "CMakeLists.txt").write_text(self.fill_in_folders(text))
         build = tempfile.mkdtemp(dir=self.folder)
         self.call("cmake", "-S", ".", "-B", build, f"-DCMAKE_PREFIX_PATH={self.library}")
         self.call("cmake", "--build", build)
@@ -117,7 +117,7 @@ class Runner:
         (crate / "src").mkdir(parents=True, exist_ok=True)
         (crate / "src/main.rs").write_text(text)
         (crate / "Cargo.toml").write_text('[package]\nname = "example"\nversion = "0.0.0"\nedition = "2021"\n'
-                                          f"[workspace]\n{self.with_folders(self.dependencies)}")
+                                          f"[workspace]\n{self.fill_in_folders(self.dependencies)}")
         self.call("cargo", "build", "--quiet", at=crate)
         return self.call(f"{self.environment['CARGO_TARGET_DIR']}/debug/example")
 
@@ -134,13 +134,13 @@ class Runner:
                 (tools / tool).symlink_to(shutil.which(tool))
             return self.call("env", "-i", f"PATH={tools}", f"HOME={self.folder}", *words, text, at=self.repository)
         if not self.is_shell:
-            return self.call(*words, self.with_folders(text))
+            return self.call(*words, self.fill_in_folders(text))
         state = self.folder / "state"
         printed = self.call(*words, f"{text}\nprintf '%s\\n' \"$PWD\" \"$PATH\" >'{state}'", at=self.place)
         self.place, self.environment["PATH"] = state.read_text().splitlines()
         return printed
 
-    def error_of(self, language, text, wanted):
+    def error_of_example(self, language, text, wanted):
         """Runs an example, and says what is wrong: it fails, or prints other than the page says."""
         try:
             printed = getattr(self, f"run_{language}")(text)
@@ -179,7 +179,7 @@ def is_as_printed(printed, wanted):
         for line, each in zip(lines, wanted_lines))
 
 
-def succeeds(*words):
+def command_succeeds(*words):
     return not subprocess.run(words, check=False, capture_output=True).returncode
 
 
@@ -192,7 +192,7 @@ def what_is_missing(runner, language, text, has_module):
     if language == "sh" and runner.name == "README.md" or language in ("sh", "python") and runner.is_shell:
         needed.append("git")
     missing = [tool for tool in needed if not shutil.which(tool)]
-    if "tests/machine/" in text and not any(shutil.which(python) and succeeds(python, "-c", "import z3")
+    if "tests/machine/" in text and not any(shutil.which(python) and command_succeeds(python, "-c", "import z3")
                                             for python in ("python3", "/usr/bin/python3")):
         missing.append("python3-z3")
     if "dist/x86_64/" in text and os.uname().machine != "x86_64":
@@ -202,20 +202,20 @@ def what_is_missing(runner, language, text, has_module):
     return missing[0] if missing else ""
 
 
-def run_page(page, work, repository, has_module):
+def run_examples_of_page(page, work, repository, has_module):
     name, text = str(page.resolve().relative_to(TOP)), page.read_text(encoding="utf-8")
-    runner = Runner(name, text, work, repository)
+    runner = ExampleRunner(name, text, work, repository)
     for again in ("", ", again") if HUGE else ("",):
-        runner.begin()
+        runner.begin_page()
         lacks = {}  # what is missing in a section
-        for line, language, block, wanted, section in examples(text):
+        for line, language, block, wanted, section in examples_of_page(text):
             missing = what_is_missing(runner, language, block, has_module)
             # A page of one user goes on with the files of the blocks before.
             if runner.is_shell and section in lacks:
                 missing = f"{lacks[section]}, which an earlier block needs"
             elif missing:
                 lacks[section] = missing
-            why = "" if missing else runner.error_of(language, block, wanted)
+            why = "" if missing else runner.error_of_example(language, block, wanted)
             tap.result(not why, f"{name}, line {line}{again}", why, missing and f"no {missing}")
     left = "" if repository == TOP else subprocess.run(
         ["git", "-C", repository, "status", "--porcelain"], check=True, capture_output=True, text=True).stdout
@@ -239,7 +239,7 @@ def main():
             subprocess.run([TOP / "c/install.sh", work / "installed"], check=True, capture_output=True)
         repository = fresh_clone(work)
         for page in map(pathlib.Path, sys.argv[1:] or (TOP / page for page in PAGES)):
-            run_page(page, work, repository, bool(built) and not built.returncode)
+            run_examples_of_page(page, work, repository, bool(built) and not built.returncode)
     tap.finish()
 
 

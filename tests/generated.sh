@@ -4,7 +4,7 @@ set -u
 source "$(dirname "$(readlink -f "$0")")/tap.sh"
 
 check "a test that does not end is ended" eval '! longest=1 in_time sleep 3607 && in_time true && ! in_time false'
-only_one_is_run() {
+test_only_selects_by_name() {
     diff <(VULFSJOR_TEST_ONLY='^b|d$' && check a false && check bc true && check cd false
         check c false && check d true) - <<'END'
 ok 2 - a # SKIP VULFSJOR_TEST_ONLY is another
@@ -14,7 +14,7 @@ ok 5 - c # SKIP VULFSJOR_TEST_ONLY is another
 ok 6 - d
 END
 }
-check "one test is run by its name" only_one_is_run
+check "one test is run by its name" test_only_selects_by_name
 check "dist/ was made from these sources" "$top/tools/dist.sh" current
 needs python3
 check "the files of BLAKE2s are what tools/twins.py makes of those of BLAKE2b" "$top/tools/twins.py" --check
@@ -44,7 +44,7 @@ twins_are_compared() {
 }
 check "a file that is not as tools/twins.py makes it is reported" twins_are_compared
 check "the model of the conformance cases has the digests of hashlib" env PYTHONPATH="$top/tests" python3 -c \
-    'import oracle, random; oracle.check(random.Random(7693))'
+    'import oracle, random; oracle.compare_model_with_hashlib(random.Random(7693))'
 other_implementations_conform() {
     mkdir "$work/conforming" && "$top/tests/conformance/write.py" "$work/conforming" &&
         "$top/tests/conformance/others.py" --check "$work/conforming"
@@ -58,10 +58,10 @@ check "choose.c, thunks.h, the exports and the crate for Rust have the functions
     "$top/tools/exports.py" --check
 check "each place has the version of CHANGELOG.md" "$top/tools/version.py" --check
 check "the man pages are what tools/manual.py makes of their sources" "$top/tools/manual.py" --check
-names_only_what_is_installed() { ! tail -qn +2 "$top"/docs/*.1 | grep -E '\.md|\.py|tests/|### |\]\(|example\)'; }
-check "the man pages of the programs name no page or test of the repository" names_only_what_is_installed
-functions_have_manuals() {
+man_pages_name_installed_files() { ! tail -qn +2 "$top"/docs/*.1 | grep -E '\.md|\.py|tests/|### |\]\(|example\)'; }
+check "the man pages of the programs name no page or test of the repository" man_pages_name_installed_files
+man_pages_have_every_function() {
     diff <(functions_of_headers | sort) <(sed -n 's/^\.SS \(vulfsjor_\w*\)()$/\1/p' "$top"/c/man/*.3 | sort)
 }
-check "the man pages have each function of the headers" functions_have_manuals
+check "the man pages have each function of the headers" man_pages_have_every_function
 finish

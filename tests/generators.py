@@ -21,22 +21,22 @@ END = ".L{0}_func_end0:\n\t.size\t{0}, .L{0}_func_end0-{0}\n\n"
 CASE = re.compile(r"(?ms)^== (.*?): (.*?)\n(.*?)^(gives|refuses:(.*?))\n(.*?)(?=^== |\Z)")
 
 
-def with_heads(text):
+def expand_head_marks(text):
     text = re.sub(r"(?m)^<< (.*)\n", lambda it: HEAD.format(it[1], 2 if "a64" in it[1] else 4), text)
     return re.sub(r"(?m)^>> (.*)\n", lambda it: END.format(it[1]), text)
 
 
-def cases():
+def generator_cases():
     """Name, command, text, wanted text and words of a refusal of each case. The words are None if it is not refused."""
     text = (TOP / "tests/generators.txt").read_text()
     found = CASE.findall(text)
     if len(found) != text.count("\n== "):
         sys.exit("tests/generators.txt: a case has no command or no end")
     for name, command, given, end, words, wanted in found:
-        yield name, command.split(), with_heads(given), wanted, words.strip() if end != "gives" else None
+        yield name, command.split(), expand_head_marks(given), wanted, words.strip() if end != "gives" else None
 
 
-def differs(command, given, wanted, words):
+def difference_from_expected(command, given, wanted, words):
     """What the script does with the text that it should not do, or nothing."""
     script, *arguments = command
     words_of_sed = ["sed", "-f"] if script.endswith(".sed") else []
@@ -52,12 +52,12 @@ def differs(command, given, wanted, words):
 def main():
     scripts = set()
     has_gnu_sed = "GNU" in subprocess.run(["sed", "--version"], capture_output=True, text=True).stdout
-    for name, command, given, wanted, words in cases():
+    for name, command, given, wanted, words in generator_cases():
         scripts.add(command[0])
         if command[0].endswith(".sed") and not has_gnu_sed:
             result(True, name, skipped="sed is not GNU sed")
             continue
-        why = differs(command, given, wanted, words)
+        why = difference_from_expected(command, given, wanted, words)
         result(not why, f"{command[0]}: {name}", why)
     edits = {path.name for path in (TOP / "tools").glob("*.sed")}
     unread = edits | {"plain_names.py", "clear_registers.py", "object_formats.py"}

@@ -45,24 +45,24 @@ OF_RATTLE = "write_sharing_edit|build|make|write_manifest|compare_all"
 EMPTY = "bash 4: an empty array under set -u"
 
 
-def lines_of(text):
+def numbered_code_lines(text):
     """The lines of a script that are no comments, with their numbers. A comment after code goes too."""
     for number, line in enumerate(text.split("\n"), 1):
         if not re.match(r"\s*#", line):
             yield number, re.sub(r"\s# .*", "", line)
 
 
-def may_be_empty(text):
+def arrays_that_may_be_empty(text):
     """The arrays that have no element at some time: by (), by read, or by a name without a value."""
     names = re.findall(r"\b(\w+)=\(\s*\)", text) + re.findall(r"\bread -ra (\w+)(?! <<<\"\$\{CC:-cc\}\")", text)
     return {*names, *re.findall(r"\blocal [^\n]*?\b(\w+)=\(\)", text)}
 
 
-def findings(text):
+def unsupported_constructs(text):
     """What a script has that an old bash or BSD's tools do not know."""
     text = re.sub(rf"(?ms)^({OF_RATTLE})\(\) \{{\n.*?^\}}$", lambda it: "\n" * it[0].count("\n"), text)
-    arrays = may_be_empty(text)
-    for number, line in lines_of(text):
+    arrays = arrays_that_may_be_empty(text)
+    for number, line in numbered_code_lines(text):
         for name, form, _ in FORMS:
             if re.search(form, line):
                 yield f"line {number}: {name}: {line.strip()}"
@@ -74,11 +74,12 @@ def findings(text):
 
 def main():
     for script in SCRIPTS:
-        found = list(findings((TOP / script).read_text(encoding="utf-8")))
+        found = list(unsupported_constructs((TOP / script).read_text(encoding="utf-8")))
         tap.result(not found, f"{script} runs with bash 3.2 and the tools of BSD", "\n".join(found))
     planted = [*((name, line) for name, _, line in FORMS), (EMPTY, 'list=()\necho "${list[@]}"'),
                (EMPTY, 'read -ra a\nb "${a[@]}"')]
-    unseen = [name for name, line in planted if not any(name in it for it in findings(f"#!/bin/bash\n{line}\n"))]
+    unseen = [name for name,
+              line in planted if not any(name in it for it in unsupported_constructs(f"#!/bin/bash\n{line}\n"))]
     tap.result(not unseen, "each form is seen", " ".join(unseen))
     tap.finish()
 

@@ -3,13 +3,14 @@
 A test that only needs a digest calls hashlib. The functions here are for what hashlib does not have
 in one call (roots, ranges of leaves). What it does not have at all (steps, a parameter block of any
 bytes, BLAKE2bp and BLAKE2sp with a key or with shorter digests, BLAKE2X) is computed by
-tests/b2_model.py, for the family SCALAR["b"] or SCALAR["s"]. `check` compares that with
+tests/b2_model.py, for the family SCALAR["b"] or SCALAR["s"]. `compare_model_with_hashlib` compares that with
 hashlib.
 """
 import hashlib
 import sys
 
-from b2_model import B, S, Input, Place, Tree, leaf_digests, parallel, root_over, steps
+from b2_model import (
+    B, S, Input, Place, Tree, leaf_digests, digest_of_parallel_hash, root_of_digests, transcript_and_digest)
 from common import FAMILIES
 
 SCALAR = {"b": B, "s": S}
@@ -21,7 +22,7 @@ def tree_node(data, leaf_size, digest_size=64, salt=b"", person=b"", **place):
                            depth=2, leaf_size=leaf_size, inner_size=64, **place).digest()
 
 
-def range_digests(data, leaf_size, first=0, ends=True, **texts):
+def digests_of_leaf_range(data, leaf_size, first=0, ends=True, **texts):
     """The joined digests of the leaves in these bytes, at least one: leaf `first` and those after it.
     The last one ends the message, or not. `texts` are salt and person."""
     leaves = [data[start:start + leaf_size] for start in range(0, len(data), leaf_size)] or [b""]
@@ -35,17 +36,17 @@ def root_of_leaves(digests, leaf_size, digest_size=64, **texts):
 
 
 def tree_root(message, leaf_size, digest_size=64, **texts):
-    digests = range_digests(message, leaf_size, **texts)
+    digests = digests_of_leaf_range(message, leaf_size, **texts)
     return root_of_leaves(digests, leaf_size, digest_size, **texts)
 
 
 def parallel_digest(name, message, digest_size, key=b"", salt=b"", person=b""):
     """The digest of BLAKE2bp ("b") or BLAKE2sp ("s"). hashlib has no nodes whose output is longer than the digest
     length that they name, and no root that names a key and has no block of it."""
-    return parallel(SCALAR[name], digest_size, Input(message, key, salt, person))
+    return digest_of_parallel_hash(SCALAR[name], digest_size, Input(message, key, salt, person))
 
 
-def parallel_by_hashlib(name, message, **texts):
+def parallel_digest_by_hashlib(name, message, **texts):
     """The same without a key, of the longest digest. `texts` are salt and person."""
     count = {"b": 4, "s": 8}[name]
     family = SCALAR[name]
@@ -61,7 +62,7 @@ def parallel_by_hashlib(name, message, **texts):
     return node(b"".join(leaf.digest() for leaf in leaves), node_depth=1, last_node=True).digest()
 
 
-def hashlib_node(given):
+def hashlib_arguments(given):
     """The arguments of hashlib's functions for an input, except its message and its key."""
     place = given.place
     return {"salt": given.salt, "person": given.persona, "fanout": place.fanout, "depth": place.depth,
@@ -69,7 +70,7 @@ def hashlib_node(given):
             "inner_size": place.inner_length, "last_node": given.last_node}
 
 
-def check(source):
+def compare_model_with_hashlib(source):
     """Ends the program if a digest of b2_model.py differs from hashlib's, over random inputs and
     tree parameters at every size of digest."""
     for name, family in SCALAR.items():
@@ -82,20 +83,20 @@ def check(source):
                           source.randint(0, family.key))
             for given in (Input(message, key, salt, persona),
                           Input(message, key, salt, persona, place, source.random() < 0.5)):
-                wanted = FAMILIES[name].function(message, digest_size=size, key=key or b"", **hashlib_node(given))
-                if steps(family, size, given)[1] != wanted.digest():
+                wanted = FAMILIES[name].function(message, digest_size=size, key=key or b"", **hashlib_arguments(given))
+                if transcript_and_digest(family, size, given)[1] != wanted.digest():
                     sys.exit(f"oracle: another digest than hashlib's, BLAKE2{name} of {size} bytes")
         for length in (0, family.block, source.randrange(20 * family.block)):
             given = Input(source.randbytes(length), None, salt, persona)
-            if parallel(family, family.digest, given) != parallel_by_hashlib(
+            if digest_of_parallel_hash(family, family.digest, given) != parallel_digest_by_hashlib(
                     name, given.message, salt=salt, person=persona):
                 sys.exit(f"oracle: another digest than hashlib's, BLAKE2{name}p of {length} bytes")
     for leaf in (1, 64, 129, 2**32 - 1):
         message, texts = source.randbytes(source.randrange(1000)), {"salt": b"salt", "person": source.randbytes(16)}
         tree, first = Tree(leaf, *texts.values()), source.randrange(2**32)
         for ends in (False, True):
-            if b"".join(leaf_digests(tree, first, ends, message)) != range_digests(
+            if b"".join(leaf_digests(tree, first, ends, message)) != digests_of_leaf_range(
                     message, leaf, first, ends, **texts):
                 sys.exit(f"oracle: other digests of leaves of {leaf} bytes than hashlib's")
-        if root_over(tree, 20, leaf_digests(tree, 0, True, message)) != tree_root(message, leaf, 20, **texts):
+        if root_of_digests(tree, 20, leaf_digests(tree, 0, True, message)) != tree_root(message, leaf, 20, **texts):
             sys.exit(f"oracle: another root than hashlib's, with leaves of {leaf} bytes")

@@ -10,7 +10,7 @@ import re
 
 import tap
 from common import read
-from page_sources import paths
+from page_sources import files_matching
 
 TOP = pathlib.Path(__file__).resolve().parent.parent
 PORTABLE = "amd64 arm64 armhf i386 ppc64el riscv64 s390x"
@@ -86,17 +86,17 @@ def read_packaging(name):
     return read(f"packaging/{name}")
 
 
-def other_packages():
+def unexpected_packages():
     found = re.findall(r"(?m)^Package: (.*)$", read_packaging("debian/control"))
     return [] if found == PACKAGES else [f"the packages are {found}"]
 
 
-def missing_lines():
+def missing_packaging_lines():
     return (f"{name} has not: {line}" for name, lines in LINES.items() for line in lines
             if line not in read_packaging(name))
 
 
-def wrong_symbols():
+def wrong_symbol_versions():
     """Each version of symbols is that of the first release that has it."""
     versions = re.findall(r"(?m)^VULFSJOR_([\d.]+) \{", read("c/vulfsjor.map"))
     wanted = [f" (symver)VULFSJOR_{version} {version}.0" for version in versions]
@@ -104,7 +104,7 @@ def wrong_symbols():
     return [] if found == wanted else [f"libvulfsjor1.symbols has {found}, and not {wanted}"]
 
 
-def other_sonames():
+def package_sonames_unlike_library():
     """The soname in the names of packages is that of the library."""
     soname = re.search(r"soname,libvulfsjor\.so\.(\d+)", read("c/make_libraries.sh"))[1]
     texts = map(read_packaging, ("debian/control", "debian/rules", "vulfsjor.spec"))
@@ -112,7 +112,7 @@ def other_sonames():
     return [] if names == {soname} else [f"the packages have the sonames {names}, and the library {soname}"]
 
 
-def other_files():
+def files_missing_from_lists():
     """files.txt has each file of these folders, and tools/release.sh only pages that are there."""
     listed = read_packaging("files.txt").splitlines()
     for start, folder in FOLDERS.items():
@@ -154,7 +154,7 @@ def rpm_patterns():
                 yield name, re.sub(r"%\{\w+\}", lambda it: macros[it[0]], line)
 
 
-def unlike_the_patterns():
+def files_without_package_pattern():
     """Each file of a package has a pattern there, and each pattern a file, but for the files that all packages have."""
     for kind, patterns in (("debian", {*debian_patterns()}), ("rpm", {*rpm_patterns()})):
         files = {(name, path) for name, path in re.findall(
@@ -166,25 +166,26 @@ def unlike_the_patterns():
         yield from (f"{kind}: {' '.join(it)} has no file" for it in sorted(patterns - {it for _, it in matches}))
 
 
-def reasons(script):
+def skip_reasons_in_script(script):
     """What a script says of absent tools: its calls of `needs`, its loops, and its reasons of skipped tests."""
-    for words in re.findall(r"(?m)^ *needs(?:_cross \S+)?((?: [\w+.\"$-]+)+)$|^for tool in (.+); do has", script):
+    for words in re.findall(r"(?m)^ *needs(?:_cross_compiler \S+)?((?: [\w+.\"$-]+)+)$|^for tool in (.+); do has",
+                            script):
         yield from (f"no {word}" for word in "".join(words).replace('"', "").split() if word != "bash")
     for words in re.findall(r"tools=\[(.*)\]", script):
         yield from (f"no {word}" for word in re.findall('"([^"]+)"', words))
-    for words in re.findall(r"(?m)^(?:check_debian|(?:digest|serde)=\().*", script):
+    for words in re.findall(r"(?m)^(?:check_with_debian_crates|(?:digest|serde)=\().*", script):
         yield from (f"no librust-{crate.replace('_', '-')}-dev" for crate in re.findall(r"(\w+)=\d", words))
     yield from re.findall(r"""(?m)(?:skip\w*[ (=]|SKIP |missing=)(?:.*["'])?(no [\w$][^"'\n]*)""", script)
 
 
-def unknown_tools():
+def skip_reasons_without_package():
     """Each reason of a skipped test has a tool or package of tools.txt, by which ./test says what to install."""
     rows = [line.split() for line in read_packaging("tools.txt").splitlines() if not line.startswith("#")]
     yield from (f"tools.txt: {' '.join(row)}" for row in rows if len(row) not in (3, 5))
     known = {re.sub(".*[:/]", "", row[1]) for row in rows} | {row[2] for row in rows}
-    scripts = [path for end in ("sh", "py", "mjs") for path in paths(f"**/*.{end}")
+    scripts = [path for end in ("sh", "py", "mjs") for path in files_matching(f"**/*.{end}")
                if re.search("tests/|run_tests", path) and "/out/" not in path and path != "tests/test_script.sh"]
-    found = [(path, reason) for path in scripts for reason in reasons(read(path))]
+    found = [(path, reason) for path in scripts for reason in skip_reasons_in_script(read(path))]
     for path, reason in found:
         parts = [] if reason in NO_PACKAGE else re.split(",? or (?!later)|, | and ", reason)
         yield from (f"{path}: tools.txt has nothing of: {part}" for part in parts
@@ -193,10 +194,10 @@ def unknown_tools():
         yield f"only {len(found)} reasons are found"
 
 
-TESTS = (("the packages of debian/control", other_packages), ("the lines of packaging/", missing_lines),
-         ("the versions of symbols", wrong_symbols), ("the soname", other_sonames),
-         ("the lists of files", other_files), ("the files of each package", unlike_the_patterns),
-         ("the tools that skipped tests lack", unknown_tools))
+TESTS = (("the packages of debian/control", unexpected_packages), ("the lines of packaging/", missing_packaging_lines),
+         ("the versions of symbols", wrong_symbol_versions), ("the soname", package_sonames_unlike_library),
+         ("the lists of files", files_missing_from_lists), ("the files of each package", files_without_package_pattern),
+         ("the tools that skipped tests lack", skip_reasons_without_package))
 for title, find in TESTS:
     said = list(find())
     tap.result(not said, title, "\n".join(said))

@@ -9,8 +9,9 @@ import sys
 
 from common import TOP, Unreadable, read
 from page_sources import (
-    LANGUAGES, Values, captured, constant, definition, measured, one_spaced, paths, power, row_of_newest_processor,
-    size)
+    LANGUAGES, CaseValues, only_group_of_match, constant_in_file, definition_text, cells_by_first_cell, single_spaced,
+    files_matching, power_of_two_in_file, row_of_newest_processor,
+    size_with_unit)
 from page_speeds import speed_rows
 
 # A space of a sentence, which may end a line of a comment, and a number with its unit.
@@ -18,11 +19,11 @@ SPACE = r"\s+(?:(?://[/!]|//|\*|#) +)?"
 NUMBER = rf"([0-9](?:[0-9,.^]*[0-9])?(?: - [0-9]+)?(?:{SPACE}(?:bytes|[KMG]i?B))?)"
 
 
-FAMILY = functools.partial(Values, "blake2_simd", "Family")
+FAMILY = functools.partial(CaseValues, "blake2_simd", "Family")
 
 
 def family_numbers(crate, file, name):
-    values = Values(crate, file, name)
+    values = CaseValues(crate, file, name)
     return [int(values[family]) for family in LANGUAGES]
 
 
@@ -45,7 +46,7 @@ def family_rows():
         at = ends
 
 
-def saved_rows():
+def saved_state_rows():
     """Those that have the fields of a saved state: eight words have as many bytes as the longest digest."""
     words, block = (family_numbers("blake2_simd", "Family", name) for name in ("output_bytes", "block_bytes"))
     at = [0, 0]
@@ -57,49 +58,51 @@ def saved_rows():
         at = ends
 
 
-def program_rows():
+def kind_and_error_rows():
     """Those that have the KINDs and the errors."""
     for name, of_b, of_s in (("kind_of", "all except `xof`", "all except `tree`, `root` and `xof`"),
-                             ("compared_kind_of", "`witness`", "`witness`")):
+                             ("witness_kind_of", "`witness`", "`witness`")):
         cases = re.findall(r'codes "(\w+)"\) then Ok \(blake2([bs])_of ([0-9]+)\)',
-                           definition("b2_commands", "ArgumentTasks", name))
+                           definition_text("b2_commands", "ArgumentTasks", name))
         for letter, accepted in (("b", of_b), ("s", of_s)):
             kinds = [(word, length) for word, family, length in cases if family == letter]
             words, numbers = (", ".join(parts) for parts in zip(*((f"`{word}`", "{}") for word, _ in kinds)))
             yield f"{words}: BLAKE2{letter}, N = {numbers}, in {accepted}", *(length for _, length in kinds)
     texts, status, lines = (
-        Values("b2_commands", "Faults", name) for name in ("fault_text", "status_of", "line_number"))
+        CaseValues("b2_commands", "Faults", name) for name in ("fault_message", "exit_status_of", "line_number"))
     for case, text in texts.items():
         if case != "WriteFailed":
             place = "line N: " if lines.get(case, "").startswith("Some") else ""
-            cause = captured(r'"(.*)"', text, texts.name)
+            cause = only_group_of_match(r'"(.*)"', text, texts.name)
             yield f"`b2: {place}{cause}` {{}}", status[case]
 
 
 # Sentences there that have the numbers of a tree's nodes and the limits of the program: where a definition is, what it
 # has, and how the page writes that.
 DEFINED = (
-    ("blake2_tree/TreeRoot/tree_place", r"\bfanout = (\d+); depth = (\d+);.* inner_length = (\d+);", "{}",
+    ("blake2_tree/TreeRoot/node_tree_parameters", r"\bfanout = (\d+); depth = (\d+);.* inner_length = (\d+);", "{}",
      "fanout {}, depth {}, leaf length L, inner length {}"),
-    ("blake2_tree/TreeRoot/root_over", r"node p (\d+) (\d+) true", "{}", "| root | N | {} | {} | on |"),
+    ("blake2_tree/TreeRoot/root_input_over_digests", r"node p (\d+) (\d+) true", "{}", "| root | N | {} | {} | on |"),
     ("blake2_tree/TreeRoot/leaf_digests", r"digest blake2b (\d+) ", "{}", "| leaf i | {} | i |"),
     ("blake2_tree/TreeRoot/leaf_input", r"node p i (\d+) ", "{}", "| i | {} | on only at the last leaf |"),
     ("b2_commands/Tasks/IsTooLongFor", r"\(to_tree [^)]*\) input = 2 \^ (\d+) ≤", "2^{}",
      "a message of fewer than {} bytes"),
     ("b2_commands/Tasks/IsTooLongFor", r"\(to_tree [^)]*\) input = 2 \^ (\d+) ≤", "2^{}", "`tree` {} bytes or more"),
-    ("b2_commands/Tasks/IsTooLongBy", r"2 \^ (\d+) ≤ key_count", "2^{}", "with the key's block, of {} or more"),
+    ("b2_commands/Tasks/IsTooLongForFamily", r"2 \^ (\d+) ≤ key_count", "2^{}",
+     "with the key's block, of {} or more"),
     ("b2_commands/Scripts/slot_value", r"number_value (\d+) digits", "{}",
      "1 to {} decimal digits with no leading zero"),
-    ("b2_commands/ArgumentTasks/some_leaf", r"nat_lt n \(2 \^ (\d+)\)", "2^{} - 1", "a leaf length L of 1 to {}"),
+    ("b2_commands/ArgumentTasks/require_leaf_length", r"nat_lt n \(2 \^ (\d+)\)", "2^{} - 1",
+     "a leaf length L of 1 to {}"),
 )
 
 
 def specification_rows():
-    found = [*family_rows(), *saved_rows(), *program_rows()]
+    found = [*family_rows(), *saved_state_rows(), *kind_and_error_rows()]
     if len(found) != 38:
         raise Unreadable(f"tests/page_numbers.py reads {len(found)} rows in the definitions where it wants 38")
     for place, pattern, shown, form in DEFINED:
-        match = re.search(pattern, definition(*place.split("/")))
+        match = re.search(pattern, definition_text(*place.split("/")))
         if not match:
             raise Unreadable(f"{place}: nothing has the form {pattern!r}, which tests/page_numbers.py reads")
         found.append((form, *map(shown.format, match.groups())))
@@ -108,32 +111,36 @@ def specification_rows():
 
 
 def longest_leaf():
-    return 2 ** int(captured(r"nat_lt n \(2 \^ ([0-9]+)\)", definition("b2_commands", "ArgumentTasks", "some_leaf"),
-                             "some_leaf")) - 1
+    name = "require_leaf_length"
+    text = definition_text("b2_commands", "ArgumentTasks", name)
+    return 2 ** int(only_group_of_match(r"nat_lt n \(2 \^ ([0-9]+)\)", text, name)) - 1
 
 
 def thread_rows():
     """The rows of trees by threads, of `b2sum` and of the digests of leaves."""
-    least, part, most, leaves, of_part, threads = (constant("c/threads.c", name) for name in (
+    least, part, most, leaves, of_part, threads = (constant_in_file("c/threads.c", name) for name in (
         "LEAST_BYTES", "PART_BYTES", "MOST_BUFFER_BYTES", "MOST_LEAVES", "PART_LEAVES", "MOST_THREADS"))
     header, rust, file = "c/include/vulfsjor_threads.h", "rust/src/threads.rs", "rust/src/tree_file.rs"
-    yield "docs/LARGE.md", "one thread for each {}, and so a second one from {} on", size(least), size(2 * least)
-    yield header, "a root needs about {} for each thread at most", size(2 * 64 * of_part)
-    yield rust, "The call allocates at most {} for each", size(2 * 64 * of_part)
-    yield "rust/README.md", "allocates at most {} for each thread", size(2 * 64 * of_part)
-    yield file, "and at most {} for digests", size(2 * 64 * of_part)
-    yield header, "at most one thread for each {} of", size(least)
-    yield header, "up to {} or four leaves, whichever is more, and at most {}", size(part), size(most)
-    yield header, "vulfsjor_tree_update_fd at most {} for digests", size(64 * leaves)
-    yield header, "A regular file of at least {} is read by all threads", size(least)
+    yield "docs/LARGE.md", "one thread for each {}, and so a second one from {} on", size_with_unit(
+        least), size_with_unit(2 * least)
+    yield header, "a root needs about {} for each thread at most", size_with_unit(2 * 64 * of_part)
+    yield rust, "The call allocates at most {} for each", size_with_unit(2 * 64 * of_part)
+    yield "rust/README.md", "allocates at most {} for each thread", size_with_unit(2 * 64 * of_part)
+    yield file, "and at most {} for digests", size_with_unit(2 * 64 * of_part)
+    yield header, "at most one thread for each {} of", size_with_unit(least)
+    yield header, "up to {} or four leaves, whichever is more, and at most {}", size_with_unit(part), size_with_unit(
+        most)
+    yield header, "vulfsjor_tree_update_fd at most {} for digests", size_with_unit(64 * leaves)
+    yield header, "A regular file of at least {} is read by all threads", size_with_unit(least)
     yield header, "with the caller's: at most {}, and 0 is", threads
-    yield header, "has one buffer of {} more", size(part)
-    yield header, "about {} or four leaves, and at the end", size(part)
-    yield "rust/README.md", "It starts a second thread from {} on", size(2 * least)
-    yield rust, "(less than {} for each)", size(least)
-    yield file, "A regular file of at least {} is read and hashed by", size(2 * least)
-    yield file, "Each thread has a buffer of at most {}", size(most)
-    digest = int(captured(r"digest blake2b ([0-9]+) ", definition("blake2_tree", "TreeRoot", "leaf_digests"),
+    yield header, "has one buffer of {} more", size_with_unit(part)
+    yield header, "about {} or four leaves, and at the end", size_with_unit(part)
+    yield "rust/README.md", "It starts a second thread from {} on", size_with_unit(2 * least)
+    yield rust, "(less than {} for each)", size_with_unit(least)
+    yield file, "A regular file of at least {} is read and hashed by", size_with_unit(2 * least)
+    yield file, "Each thread has a buffer of at most {}", size_with_unit(most)
+    digest = int(only_group_of_match(r"digest blake2b ([0-9]+) ",
+                                     definition_text("blake2_tree", "TreeRoot", "leaf_digests"),
                           "TreeRoot"))
     for form, *values in (
             ("hashes each leaf to {} bytes", digest), ("hashes {} bytes for each leaf in one thread", digest),
@@ -141,34 +148,37 @@ def thread_rows():
             ("you hash one leaf again, and {} bytes for each leaf of the message", digest),
             ("allocates {} bytes for each leaf of its input", digest),
             ("the digests of the leaves, {} bytes for each", digest),
-            ("For 1 GiB in leaves of 64 KiB you keep {} of digests", size((1 << 14) * digest))):
+            ("For 1 GiB in leaves of 64 KiB you keep {} of digests", size_with_unit((1 << 14) * digest))):
         yield "docs/LARGE.md", form, *values
-    short, middle, long = (float(cell) for cell in row_of_newest_processor(measured("16 MiB"), "root")[::2])
+    short, middle, long = (float(cell) for cell in row_of_newest_processor(cells_by_first_cell("16 MiB"), "root")[::2])
     yield ("docs/LARGE.md", "of 4 KiB the speed was {} percent lower, with leaves of 1 MiB {} percent",
            round(100 - 100 * short / middle), round(100 - 100 * long / middle))
-    least = constant("c/b2sum.c", "LEAST_BYTES")
-    yield "docs/LARGE.md", "reads a file of {} or more with up to {} threads", size(least), threads
-    yield "docs/TUTORIAL.md", "several threads for files of {} or more", size(least)
-    piece, tree = (constant("crates/b2sum/src/hashes.rt", name) for name in ("PIECE_BYTES", "TREE_PIECE_BYTES"))
+    least = constant_in_file("c/b2sum.c", "LEAST_BYTES")
+    yield "docs/LARGE.md", "reads a file of {} or more with up to {} threads", size_with_unit(least), threads
+    yield "docs/TUTORIAL.md", "several threads for files of {} or more", size_with_unit(least)
+    piece, tree = (constant_in_file("crates/b2sum/src/hashes.rt", name) for name in ("PIECE_BYTES", "TREE_PIECE_BYTES"))
     for form, *values in (
-            ("it reads {} at a time", size(piece)),
-            ("With `--tree` it needs {}, at most {} for the digests of leaves", size(tree + part), size(64 * leaves)),
-            ("a buffer of {} or four leaves, at most {}", size(part), size(most)),
-            ("by at most N threads, {} at most", threads), ("those of a file of {} or more", size(least))):
+            ("it reads {} at a time", size_with_unit(piece)),
+            ("With `--tree` it needs {}, at most {} for the digests of leaves", size_with_unit(tree + part),
+             size_with_unit(64 * leaves)),
+            ("a buffer of {} or four leaves, at most {}", size_with_unit(part), size_with_unit(most)),
+            ("by at most N threads, {} at most", threads), ("those of a file of {} or more", size_with_unit(least))):
         yield "docs/B2SUM.md", form, *values
     names = "MOST_FILES", "ENOUGH_BYTES", "LANES", "FIRST_ROOM_BYTES", "MOST_ROOM_BYTES", "WORTH_BYTES", "MOST_PAUSE"
     files, enough, lanes, first, most, worth, pause = (
-        constant("crates/b2sum_commands/src/ahead.rt", name) for name in names)
+        constant_in_file("crates/b2sum_commands/src/ahead.rt", name) for name in names)
     for form, *values in (
-            ("a regular file of 1 byte to {} is read early", size(constant("c/b2sum.c", "AHEAD_BYTES"))),
+            ("a regular file of 1 byte to {} is read early",
+             size_with_unit(constant_in_file("c/b2sum.c", "AHEAD_BYTES"))),
             ("are groups of up to {}, {} and {} files, and then of up to {}.", lanes, 2 * lanes, 4 * lanes, files),
-            ("after a multiple of {} files that have at least {} together", lanes, size(enough)),
-            ("Its memory has {}, and twice as much, up to {}, each time", size(first), size(most)),
-            ("fewer than {} a file, or that begins with a file that is not read early, the next {} files", size(worth),
+            ("after a multiple of {} files that have at least {} together", lanes, size_with_unit(enough)),
+            ("Its memory has {}, and twice as much, up to {}, each time", size_with_unit(first), size_with_unit(most)),
+            ("fewer than {} a file, or that begins with a file that is not read early, the next {} files",
+             size_with_unit(worth),
              files),
             ("after the next such group more, up to {}.", f"{pause:,}"),
             ("had up to {} lines before its own", files - 1), ("at most {} files were read in vain", files),
-            ("[several files](#several-files) it needs up to {} more", size(most))):
+            ("[several files](#several-files) it needs up to {} more", size_with_unit(most))):
         yield "docs/B2SUM.md", form, *values
 
 
@@ -177,9 +187,9 @@ def family_length_rows():
     (out_b, out_s), (key_b, key_s), (salt_b, salt_s), (block_b, block_s) = (
         family_numbers("blake2_simd", "Family", name)
         for name in ("output_bytes", "key_bytes", "salt_bytes", "block_bytes"))
-    peer = captured(r'startswith\("b2sum \(GNU coreutils\) ([0-9.]+)', read("tests/compare_coreutils.py"),
+    peer = only_group_of_match(r'startswith\("b2sum \(GNU coreutils\) ([0-9.]+)', read("tests/compare_coreutils.py"),
                     "tests/compare_coreutils.py")
-    longest = int(captured(r"PATH_ROOM = ([0-9]+)", read("c/b2sum.c"), "c/b2sum.c")) - 1
+    longest = int(only_group_of_match(r"PATH_ROOM = ([0-9]+)", read("c/b2sum.c"), "c/b2sum.c")) - 1
     for form, *values in (
             ("of GNU coreutils {} and has", peer),
             ("at most {} (BLAKE2s and BLAKE2sp: {}), the default", 8 * out_b, 8 * out_s),
@@ -202,13 +212,14 @@ def family_length_rows():
     if stripe != block_s * leaves_s:
         raise Unreadable("docs/GLOSSARY.md says that a stripe has one length in BLAKE2bp and BLAKE2sp")
     unknown = [re.fullmatch(r"2 \^ ([0-9]+) - 1", value)[1] for value in map(
-        Values("blake2_xof", "Xof", "unknown_length").__getitem__, LANGUAGES)]
-    blocks = captured(r"then 2 \^ ([0-9]+) \* output_bytes f", definition("blake2_xof", "Xof", "output_length"), "Xof")
+        CaseValues("blake2_xof", "Xof", "unknown_length").__getitem__, LANGUAGES)]
+    blocks = only_group_of_match(r"then 2 \^ ([0-9]+) \* output_bytes f",
+                                 definition_text("blake2_xof", "Xof", "output_length"), "Xof")
     page = "docs/SPECIFICATION.md"
     yield page, "length has {} bits in BLAKE2Xb and {} in BLAKE2Xs", *unknown
     yield page, "n is 1 to {} ({}): the length of the output", *(f"2^{bits} - 2" for bits in unknown)
     yield page, "Then {} blocks can be read", f"2^{blocks}"
-    whole_b, whole_s = (size((1 << int(blocks)) * out) for out in (out_b, out_s))
+    whole_b, whole_s = (size_with_unit((1 << int(blocks)) * out) for out in (out_b, out_s))
     yield "rust/src/xof.rs", '"{}", "{}", FamilyLimits::BLAKE2B', f"2^{unknown[0]} - 2", whole_b
     yield "rust/src/xof.rs", '"{}", "{}", FamilyLimits::BLAKE2S', f"{(1 << int(unknown[1])) - 2:,}", whole_s
     yield "c/include/vulfsjor.h", "BLAKE2XB_UNKNOWN_LENGTH if the length is not known in advance: then {} can", whole_b
@@ -216,24 +227,28 @@ def family_length_rows():
 
 
 def constant_rows():
-    cleared = [int(number) for path in paths("crates/blake2_ffi/src/**/*.rt")
+    cleared = [int(number) for path in files_matching("crates/blake2_ffi/src/**/*.rt")
                for number in re.findall(r"const \w+_BYTES: usize = ([0-9]+);", read(path))]
     yield "docs/WIPING.md", "rounded up: {} to {};", min(cleared), f"{max(cleared):,} bytes"
     yield "docs/MACHINE.md", "`scrub_stack` of {} to {}, also", min(cleared), f"{max(cleared):,} bytes"
-    yield ("docs/WIPING.md", "and {} of the stack below each call", size(constant("c/b2sum.c", "STACK_BYTES")))
-    scrubbed = constant("crates/blake2_digest/src/wiping.rt", "SCRUBBED_BYTES")
+    yield ("docs/WIPING.md", "and {} of the stack below each call",
+           size_with_unit(constant_in_file("c/b2sum.c", "STACK_BYTES")))
+    scrubbed = constant_in_file("crates/blake2_digest/src/wiping.rt", "SCRUBBED_BYTES")
     yield "docs/WIPING.md", "writes {} zeros over the stack", f"{scrubbed:,}"
-    depth = int(captured(r"DEPTH = ([0-9]+) \* 1024,", read("tests/key_scan/scan.c"), "scan.c")) << 10
-    yield "docs/WIPING.md", "Then it searches {} of the dead stack", size(depth)
-    yield "docs/PORTABLE.md", "a volatile array of N + {},", f"{constant('tools/wasm_to_c.py', 'MARGIN'):,} bytes"
-    yield "docs/PORTABLE.md", "A call uses at most {} of the stack", size(constant("tests/portable_stack.py", "MOST"))
-    stack, room = constant("tests/machine/compression.py", "STACK"), constant("tests/machine/wasm.py", "ROOM")
-    yield "docs/MACHINE.md", "and at most {} of its stack", size(stack)
-    yield "docs/MACHINE.md", "the stack has {} left", size(room)
-    compiler = captured(r'(?m)^rust-version = "(.*)"$', read("Cargo.toml"), "Cargo.toml")
-    cmake = captured(r"cmake_minimum_required\(VERSION (.*)\)", read("c/CMakeLists.txt"), "c/CMakeLists.txt")
-    python = captured(r'requires-python = ">=(.*)"', read("python/pyproject.toml"), "pyproject.toml")
-    node = captured(r'"node": ">=([0-9.]+)"', read("js/package.json"), "package.json")
+    depth = int(only_group_of_match(r"DEPTH = ([0-9]+) \* 1024,", read("tests/key_scan/scan.c"), "scan.c")) << 10
+    yield "docs/WIPING.md", "Then it searches {} of the dead stack", size_with_unit(depth)
+    yield ("docs/PORTABLE.md", "a volatile array of N + {},",
+           f"{constant_in_file('tools/wasm_to_c.py', 'MARGIN'):,} bytes")
+    yield "docs/PORTABLE.md", "A call uses at most {} of the stack", size_with_unit(
+        constant_in_file("tests/portable_stack.py", "MOST"))
+    stack, room = constant_in_file("tests/machine/compression.py", "STACK"), constant_in_file("tests/machine/wasm.py",
+                                                                                              "ROOM")
+    yield "docs/MACHINE.md", "and at most {} of its stack", size_with_unit(stack)
+    yield "docs/MACHINE.md", "the stack has {} left", size_with_unit(room)
+    compiler = only_group_of_match(r'(?m)^rust-version = "(.*)"$', read("Cargo.toml"), "Cargo.toml")
+    cmake = only_group_of_match(r"cmake_minimum_required\(VERSION (.*)\)", read("c/CMakeLists.txt"), "c/CMakeLists.txt")
+    python = only_group_of_match(r'requires-python = ">=(.*)"', read("python/pyproject.toml"), "pyproject.toml")
+    node = only_group_of_match(r'"node": ">=([0-9.]+)"', read("js/package.json"), "package.json")
     yield "README.md", "**Rust** from {}", compiler
     yield "README.md", "**Python** from {}", python
     yield "README.md", "from node {},", node
@@ -241,14 +256,14 @@ def constant_rows():
     yield "c/README.md", "**CMake** {} or later", cmake
     yield "python/README.md", "You need CPython {} or later", python
     yield "js/README.md", "one ES module for node {} and later", node
-    text = " ".join(read(path) for path in paths("c/tests/*.sh"))
+    text = " ".join(read(path) for path in files_matching("c/tests/*.sh"))
     c, cpp = (min(re.findall(rf"-std={form}([0-9]+)", text), key=lambda year: (year < "89", year))
               for form in ("c", r"c\+\+"))
     yield "c/README.md", "It is for C{} and later and C++{} and later", c, cpp
     yield "docs/PORTABLE.md", "has no assembly, in C{}.", c
 
 
-def rows():
+def number_sentence_rows():
     """The rows of the table: a page, a sentence of it with {} for numbers, and the numbers."""
     yield from specification_rows()
     yield from thread_rows()
@@ -257,7 +272,7 @@ def rows():
     yield from speed_rows()
 
 
-def sentence_matches(page, form, text):
+def matches_of_sentence(page, form, text):
     """The matches of the sentence in the text of a page."""
     words = (SPACE.join(map(re.escape, part.split(" "))) for part in form.split("{}"))
     found = list(re.finditer(NUMBER.join(words), text))
@@ -266,9 +281,9 @@ def sentence_matches(page, form, text):
     return found
 
 
-def without_marks(text):
+def without_comment_marks(text):
     """Words, without the marks of a comment between them."""
-    return one_spaced(re.sub(SPACE, " ", text))
+    return single_spaced(re.sub(SPACE, " ", text))
 
 
 # What the comments of vulfsjor.h say of a length, and the definition that has it.
@@ -284,17 +299,17 @@ COMMENTS = (
 RANGES = re.compile(r"\b[0-9]+ to (?:[0-9]+\^[0-9]+ - [0-9]+|[0-9]+)|\b[0-9]+\^[0-9]+(?: - [0-9]+)?")
 
 
-def lengths_of(kind):
+def lengths_ranges_and_powers(kind):
     """The lengths of blake2b, blake2xs, tree and so on by their names, and the ranges and powers that it has."""
     family = "blake2s" if kind.rstrip("p").endswith("s") else "blake2b"
     of = {name: int(FAMILY(name)[family])
           for name in ("key_bytes", "salt_bytes", "output_bytes", "block_bytes")}
     pending = of["block_bytes"]
     if kind.endswith("p"):
-        of["block_bytes"] *= int(Values("blake2_parallel", "Parallel", "leaves")[family])
+        of["block_bytes"] *= int(CaseValues("blake2_parallel", "Parallel", "leaves")[family])
         pending = 2 * of["block_bytes"] - pending
-    unknown = Values("blake2_xof", "Xof", "unknown_length")[family].replace(" ^ ", "^").removesuffix(" - 1")
-    limit = power("crates/blake2_tree/src/limits.rt", "MESSAGE_LIMIT: u64 = ").bit_length() - 1
+    unknown = CaseValues("blake2_xof", "Xof", "unknown_length")[family].replace(" ^ ", "^").removesuffix(" - 1")
+    limit = power_of_two_in_file("crates/blake2_tree/src/limits.rt", "MESSAGE_LIMIT: u64 = ").bit_length() - 1
     of["limit"] = limit if kind == "tree" else 64
     ranges = {f"1 to {of['output_bytes']}", f"0 to {of['key_bytes']}", f"1 to {of['key_bytes']}", f"2^{of['limit']}",
               f"0 to {of['salt_bytes']}", f"0 to {pending}", "2^48"}
@@ -303,7 +318,7 @@ def lengths_of(kind):
     return of, ranges | ({"1 to 2^32 - 1", "1 to 255", "2^64"} if kind == "tree" else set())
 
 
-def comments():
+def family_comments():
     """The comments of vulfsjor.h on functions and structs of a family, each with that, as blake2bp or tree."""
     text = read("c/include/vulfsjor.h")
     name = r"\bvulfsjor_(?:ffi_)?(blake2[bs]p?|blake2x[bs]|tree|plan|part|limits)(?:_|\b)"
@@ -315,11 +330,11 @@ def comments():
             yield kind[1] if kind[1].startswith("blake2") else "tree", comment
 
 
-def wrong_comments():
+def wrong_numbers_in_comments():
     path, count = "c/include/vulfsjor.h", 0
-    for kind, text in comments():
-        lengths, ranges = lengths_of(kind)
-        words = without_marks(re.sub(r"/\*|\*/", "", text))
+    for kind, text in family_comments():
+        lengths, ranges = lengths_ranges_and_powers(kind)
+        words = without_comment_marks(re.sub(r"/\*|\*/", "", text))
         wrong = [found for found in RANGES.findall(words) if found not in ranges]
         for form, name in COMMENTS:
             numbers = re.findall(form, words)
@@ -330,23 +345,23 @@ def wrong_comments():
         yield f"{path}: tests/page_numbers.py reads only {count} numbers of its comments"
 
 
-def wrong_numbers():
+def wrong_numbers_in_pages():
     """The numbers of the pages and of vulfsjor.h (tests/page_numbers.py), and speeds (tests/page_speeds.py)"""
-    for page, form, *values in rows():
-        for match in sentence_matches(page, form, read(page)):
-            shown = [without_marks(group) for group in match.groups()]
+    for page, form, *values in number_sentence_rows():
+        for match in matches_of_sentence(page, form, read(page)):
+            shown = [without_comment_marks(group) for group in match.groups()]
             if shown != [str(value) for value in values]:
-                yield f"{page}: {without_marks(match[0])!r}: the code says {', '.join(map(str, values))}"
-    yield from wrong_comments()
+                yield f"{page}: {without_comment_marks(match[0])!r}: the code says {', '.join(map(str, values))}"
+    yield from wrong_numbers_in_comments()
 
 
-def write():
+def write_numbers_into_pages():
     texts = {}
-    for page, form, *values in rows():
+    for page, form, *values in number_sentence_rows():
         text = texts.get(page, read(page))
-        for match in reversed(sentence_matches(page, form, text)):
+        for match in reversed(matches_of_sentence(page, form, text)):
             for i, value in reversed(list(enumerate(values, 1))):
-                if without_marks(match[i]) != str(value):
+                if without_comment_marks(match[i]) != str(value):
                     text = text[:match.start(i)] + str(value) + text[match.end(i):]
         texts[page] = text
     for page, text in texts.items():
@@ -358,4 +373,4 @@ def write():
 if __name__ == "__main__":
     if sys.argv[1:] != ["--write"]:
         sys.exit("usage: tests/page_numbers.py --write")
-    write()
+    write_numbers_into_pages()

@@ -8,7 +8,7 @@ import subprocess
 import tempfile
 
 from common import TOP, Unreadable, read
-from page_sources import Values, captured, constant, power
+from page_sources import CaseValues, only_group_of_match, constant_in_file, power_of_two_in_file
 
 PAGE = "docs/GLOSSARY.md"
 # Each column: the files in which its names are declared, and how.
@@ -30,7 +30,7 @@ ROWS = {
 }
 
 
-def wrong_names():
+def wrong_parameter_names():
     """The names of the parameters in each language (docs/GLOSSARY.md)"""
     table = re.search(r"(?m)^parameter  (.*)\n((?:.*  .*\n)+)```$", read(PAGE))
     if not table:
@@ -69,19 +69,19 @@ FORMS = (
 )
 
 
-def wrong_in_packages():
+def wrong_numbers_in_packages():
     """The numbers that packages repeat: lengths of each hash, the longest message of a tree, threads"""
     for path, form, names, kinds in FORMS:
         for length, name in zip(LENGTHS[-len(names):], names):
             for kind in kinds:
-                number = captured(form.format(small=kind, large=kind.upper(), name=name), read(path), path)
-                wanted = Values("blake2_simd", "Family", length)[kind[:7]]
+                number = only_group_of_match(form.format(small=kind, large=kind.upper(), name=name), read(path), path)
+                wanted = CaseValues("blake2_simd", "Family", length)[kind[:7]]
                 if number != wanted:
                     yield f"{path}: {length} of {kind} is {number}, and the definition has {wanted}"
-    limit = power("crates/blake2_tree/src/limits.rt", "MESSAGE_LIMIT: u64 = ")
+    limit = power_of_two_in_file("crates/blake2_tree/src/limits.rt", "MESSAGE_LIMIT: u64 = ")
     for path, before in (("rust/src/tree_params.rs", "MOST_BYTES: u64 = "), ("js/index.js", "const LIMIT = "),
                          ("js/src/threads.js", "const LONGEST_MESSAGE = ")):
-        if power(path, before) != limit:
+        if power_of_two_in_file(path, before) != limit:
             yield f"{path}: {before}is another limit than that of crates/blake2_tree"
     for path, name, there in (("js/src/platform.js", "MOST_THREADS", "MOST_THREADS"),
                               ("rust/src/threads.rs", "LEAST_BYTES", "LEAST_BYTES"),
@@ -90,7 +90,7 @@ def wrong_in_packages():
                               ("rust/src/tree_file.rs", "MOST_BUFFER_BYTES", "MOST_BUFFER_BYTES"),
                               ("python/vulfsjor/_files.py", "_MOST_TREE_BYTES", "MOST_BUFFER_BYTES"),
                               ("python/vulfsjor/_files.py", "_LONG_FILE_BYTES", "LEAST_BYTES")):
-        if constant(path, name) != constant("c/threads.c", there):
+        if constant_in_file(path, name) != constant_in_file("c/threads.c", there):
             yield f"{path}: {name} is not {there} of C"
 
 
@@ -99,7 +99,7 @@ BUILDING = {"the library": ("c/install.sh", "{}"), "`b2`": ("b2", "--build", "{}
 
 
 @functools.cache
-def found_by(script, target):
+def script_result_for_machine(script, target):
     """What a script, for a compiler that says this of its machine and then fails, compiles and says."""
     with tempfile.TemporaryDirectory() as folder:
         fake, calls = os.path.join(folder, "cc"), os.path.join(folder, "calls")
@@ -140,11 +140,11 @@ PLATFORMS = {
 }
 
 
-def library_for(target):
+def library_kind_for_machine(target):
     """What the library is for a machine: assembly or portable C, and whether it has programs and threads there."""
-    if "/dist/c/vulfsjor.c" in found_by("the library", target):
+    if "/dist/c/vulfsjor.c" in script_result_for_machine("the library", target):
         return "library, portable C"
-    return "library without threads" if "there is no build for" in found_by("`b2`", target) else "yes"
+    return "library without threads" if "there is no build for" in script_result_for_machine("`b2`", target) else "yes"
 
 
 # The sentence of each page that says for which systems the library and the programs are.
@@ -156,17 +156,18 @@ SENTENCES = {
 }
 
 
-def check_systems():
+def wrong_system_names():
     """The systems that the pages name for the library and the programs, with those that the scripts build for"""
-    wanted = {name.split()[0].strip(",") for name, (target, *_) in PLATFORMS.items() if library_for(target) == "yes"}
+    wanted = {name.split()[0].strip(",") for name,
+              (target, *_) in PLATFORMS.items() if library_kind_for_machine(target) == "yes"}
     for page, pattern in SENTENCES.items():
-        named = set(re.findall("Linux|Windows|macOS", captured(pattern, " ".join(read(page).split()), page)))
+        named = set(re.findall("Linux|Windows|macOS", only_group_of_match(pattern, " ".join(read(page).split()), page)))
         if named != wanted:
             yield f"{page}: it names {sorted(named)}, and {sorted(wanted)} have builds"
 
 
 def has_assembly_in_rust(target):
-    cfg = captured(r"(?s)macro_rules! with_assembly .*?cfg\(all\((.*?)\)\)\]", read("rust/src/lib.rs"),
+    cfg = only_group_of_match(r"(?s)macro_rules! with_assembly .*?cfg\(all\((.*?)\)\)\]", read("rust/src/lib.rs"),
                    "rust/src/lib.rs")
     systems = {"linux": "-linux-", "macos": "-darwin", "windows": "-mingw"}
     known = [mark for system, mark in systems.items() if re.search(rf'target_os = "{system}"|\b{system}\b', cfg)]
@@ -174,7 +175,7 @@ def has_assembly_in_rust(target):
     return any(mark in target for mark in known) and bool(re.match("|".join(processors), target))
 
 
-def check_platforms():
+def wrong_platform_cells():
     """The cells of docs/PORTABLE.md, with what is built and tested for each system"""
     page = "docs/PORTABLE.md"
     rows = {first.strip(): [cell.strip() for cell in rest.split("|")]
@@ -185,7 +186,7 @@ def check_platforms():
                      for file, words in map(str.split, filter(None, tests))]
         if [bool(re.match("yes|library|.*, tested", cell)) for cell in cells[:len(is_tested)]] != is_tested:
             yield f"{page}: {name} has {cells[:3]}, and of tests {is_tested}"
-        built = library_for(target)
+        built = library_kind_for_machine(target)
         if not cells or cells[0] != (built if not is_tested or is_tested[0] else "not tested"):
             yield f"{page}: {name} has {cells[:1]}, and what is built is {built!r}"
         elif cells[1].startswith("portable") == has_assembly_in_rust(target):

@@ -15,15 +15,15 @@ import sys
 MOST = 16 << 10  # bytes, as docs/PORTABLE.md says
 
 
-def read(path):
+def read_text(path):
     with open(path, encoding="utf-8") as file:
         return file.read()
 
 
 def main():
-    text = read(sys.argv[1])
+    text = read_text(sys.argv[1])
     frames = {}  # of the function that is compiled for a call, such as NAME.constprop.0, too
-    for name, size in re.findall(r":(\w+)(?:\.[\w.]+)?\t(\d+)\t", read(sys.argv[2])):
+    for name, size in re.findall(r":(\w+)(?:\.[\w.]+)?\t(\d+)\t", read_text(sys.argv[2])):
         frames[name] = max(int(size), frames.get(name, 0))
     scrubbed = {name: int(length) for name, length in re.findall(r"^SCRUB\((\w+), (\d+)\)$", text, re.MULTILINE)}
     bodies = dict(re.findall(r"^APART \w+ (\w+)\([^{]*\{\n(.*?)^\}$", text, re.MULTILINE | re.DOTALL))

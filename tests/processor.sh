@@ -8,8 +8,8 @@ if [ "$(uname -m)" = aarch64 ]; then
     exit
 fi
 info=${1:-/proc/cpuinfo}
-has() { for flag; do grep -qsw "$flag" "$info" || return; done; }
+processor_has_flags() { for flag; do grep -qsw "$flag" "$info" || return; done; }
 cpu=x86-64-v2
-! has avx avx2 bmi1 bmi2 f16c fma abm movbe xsave || cpu=x86-64-v3
-[ $cpu = x86-64-v2 ] || ! has avx512f avx512bw avx512cd avx512dq avx512vl || cpu=x86-64-v4
+! processor_has_flags avx avx2 bmi1 bmi2 f16c fma abm movbe xsave || cpu=x86-64-v3
+[ $cpu = x86-64-v2 ] || ! processor_has_flags avx512f avx512bw avx512cd avx512dq avx512vl || cpu=x86-64-v4
 echo "$cpu"

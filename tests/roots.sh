@@ -13,7 +13,7 @@ suite=$(sed -n 's/^VERSION_CODENAME=//p' /etc/os-release 2>/dev/null)
 shown=("$work/said")
 
 # The lists of the distribution itself, in which apt has no other's packages.
-lists() {
+write_package_lists() {
     local list
     for list in /etc/apt/sources.list /etc/apt/sources.list.d/debian.{sources,list}; do
         [ ! -s "$list" ] || echo "$list"
@@ -24,26 +24,26 @@ lists() {
 make_root() {
     local from hooks=(--customize-hook='cp -a "$1/var/lib/apt/lists" '"'$work/lists'") IFS=,
     [ ! -d "$work/lists" ] || hooks=(--skip=update --setup-hook='cp -a '"'$work/lists/.'"' "$1/var/lib/apt/lists/"')
-    mapfile -t from < <(lists)
+    mapfile -t from < <(write_package_lists)
     mmdebstrap --quiet --variant=minbase --hook-dir=/usr/share/mmdebstrap/hooks/merged-usr --include="${*:2}" \
         "${hooks[@]}" --format=directory "$suite" "$work/$1" "${from[@]}"
 }
 
 # Puts the sources in a folder: FOLDER clone|archive|applets
-put_sources() {
+copy_sources() {
     [ "$2" != clone ] || { make_repository "$1"; return; }
     make_repository "$work/made" && mkdir "$1" && git -C "$work/made" archive HEAD | tar -C "$1" -xf - &&
         rm -rf "$work/made"
 }
 
 # A folder in a root with BusyBox's tools, and what a C compiler, Perl, Python and make are: NAME
-put_applets() {
+make_applet_folder() {
     chroot "$work/$1" sh -c 'mkdir /applets && "$(command -v busybox)" --install -s /applets && cd /applets &&
         for tool in bash cc gcc as ld ar nm ranlib perl python3 make; do ln -sf "/usr/bin/$tool" . || exit; done'
 }
 
 # Runs a script in the sources in a root, as its user without a network: NAME SCRIPT
-in_root() {
+run_script_in_root() {
     unshare --mount --net --pid --fork --ipc bash -c 'cd "$0" && mount -t proc proc proc &&
         mount -t devpts -o newinstance,ptmxmode=0666 devpts dev/pts && mount -t tmpfs tmpfs dev/shm || exit
         path=/usr/bin:/bin
@@ -54,16 +54,20 @@ in_root() {
 }
 
 # What ./test has to say at its end, and no line of a test that failed.
-passed() { grep -q '^Result: PASS$' "$work/said" && ! grep '^not ok' "$work/said"; }
+test_run_passed() { grep -q '^Result: PASS$' "$work/said" && ! grep '^not ok' "$work/said"; }
 
-first_command() { in_root "$1" "$(block_of README.md sh)" && grep -x 'README.md: OK' "$work/said"; }
-test_passes() { in_root "$1" ./test && passed; }
+readme_command_succeeds() {
+    run_script_in_root "$1" "$(block_of README.md sh)" && grep -x 'README.md: OK' "$work/said"
+}
+test_run_succeeds_in_root() { run_script_in_root "$1" ./test && test_run_passed; }
 
 # It says immediately what to install, and has built nothing.
-stops() { ! in_root "$1" './test' && [ "$(wc -l <"$work/said")" -eq 1 ] && grep -F "${2//_/ }" "$work/said"; }
+test_stops_with_line() {
+    ! run_script_in_root "$1" './test' && [ "$(wc -l <"$work/said")" -eq 1 ] && grep -F "${2//_/ }" "$work/said"
+}
 
 # NAME quick|long SOURCES END PACKAGES..
-try_root() {
+test_in_root() {
     local name=$1 sources=$3 end=$4 packages=("${@:5}")
     if [ "$5" = all ]; then
         mapfile -t packages < <(awk '!/^#/ && !/ mmdebstrap/ { print $3 } END { print "libc6-dev" }' \
@@ -76,23 +80,23 @@ try_root() {
     fi
     pass "$name: a system with ${*:5}"
     mkdir -p "$work/$name/home/user" &&
-        check "$name: the sources" put_sources "$work/$name/home/user/sources" "$sources" &&
+        check "$name: the sources" copy_sources "$work/$name/home/user/sources" "$sources" &&
         chown -R 1000:1000 "$work/$name/home/user" || return
-    [ "$sources" != applets ] || check "$name: BusyBox's tools" put_applets "$name"
-    check "$name: README's first command" first_command "$name"
+    [ "$sources" != applets ] || check "$name: BusyBox's tools" make_applet_folder "$name"
+    check "$name: README's first command" readme_command_succeeds "$name"
     [[ " ${packages[*]} " != *" make "* ]] ||
-        check "$name: make install" in_root "$name" 'make install prefix=/home/user/installed'
+        check "$name: make install" run_script_in_root "$name" 'make install prefix=/home/user/installed'
     if [ "$end" = pass ]; then
-        check "$name: ./test" test_passes "$name"
+        check "$name: ./test" test_run_succeeds_in_root "$name"
         sed -nE '/^(To run|Files=|Result:)/s/^/# /p' "$work/said"
     else
-        check "$name: ./test says: ${end//_/ }" stops "$name" "$end"
+        check "$name: ./test says: ${end//_/ }" test_stops_with_line "$name" "$end"
     fi
     rm -rf "${work:?}/$name"
 }
 
 # Whether a system can be made and entered here, which a container may forbid.
-can_enter() {
+can_make_and_enter_root() {
     [ "$(id -u)" -eq 0 ] && mknod "$work/null" c 1 3 && unshare --mount --net --pid --fork --ipc bash -c '
         mount -t proc proc "$0" && mount -t devpts -o newinstance devpts "$0"' "$work"
 }
@@ -100,14 +104,14 @@ can_enter() {
 wanted=" $* "
 needs git
 has mmdebstrap || missing="no mmdebstrap"
-can_enter 2>/dev/null || missing=${missing:-"no rights of root"}
-[ -n "$(lists)" ] || missing=${missing:-"no lists of apt"}
+can_make_and_enter_root 2>/dev/null || missing=${missing:-"no rights of root"}
+[ -n "$(write_package_lists)" ] || missing=${missing:-"no lists of apt"}
 while read -r name when words; do
     [[ -n $name && $name != \#* ]] || continue
     [[ $# -gt 0 || $when == quick ]] && [[ $# -eq 0 || $wanted == *" --all "* || $wanted == *" $name "* ]] || continue
     [ -z "$missing" ] || { skip "$name: $words" "$missing" && continue; }
     # shellcheck disable=SC2086
-    try_root "$name" "$when" $words </dev/null
+    test_in_root "$name" "$when" $words </dev/null
 done <"$top/packaging/roots.txt"
 [ "$ended" -gt 0 ] || stop "packaging/roots.txt has no $*"
 finish

@@ -8,28 +8,28 @@ use warnings;
 # The commands that install packages, and their column of names in the table.
 my @managers = (["apt-get install", 0], ["dnf install", 1], ["apk add", 2]);
 
-sub is_here {
+sub is_command_on_path {
     my $command = shift;
     return scalar grep { -f -x "$_/$command" } split /:/, $ENV{PATH};
 }
 
 # The packages of this column by the words that a reason has for what they bring: its name, or Debian's of the package.
-sub read_table {
+sub packages_by_reason_word {
     my ($column, %package) = @_;
     open my $table, "<", "packaging/tools.txt" or die "skips.pl: no packaging/tools.txt\n";
     for (grep { !/^#/ } <$table>) {
         my (undef, $thing, @names) = split;
         my $name = $names[$column] // $names[0];
         my $is_command = $thing !~ s{.*[:/]}{};
-        $package{$thing} = $name if $name ne "-" && !($is_command && is_here($thing));
-        $package{$names[0]} //= $name if $name ne "-" && !is_here($names[0]);
+        $package{$thing} = $name if $name ne "-" && !($is_command && is_command_on_path($thing));
+        $package{$names[0]} //= $name if $name ne "-" && !is_command_on_path($names[0]);
     }
     return %package;
 }
 
-my ($manager) = grep { is_here($_->[0] =~ /(\S+)/) } @managers;
+my ($manager) = grep { is_command_on_path($_->[0] =~ /(\S+)/) } @managers;
 my ($install, $column) = @{$manager // [", install what Debian calls", 0]};
-my %package = read_table($column);
+my %package = packages_by_reason_word($column);
 my ($skipped, $enabled, %absent) = ("", 0);
 $| = 1;
 while (my $line = <STDIN>) {

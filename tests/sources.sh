@@ -3,7 +3,7 @@
 fetched=${VULFSJOR_SOURCES:-$work/fetched}
 
 # The machine's own lists of packages, asked for sources in the place of programs: FOLDER
-source_lists() {
+write_source_package_lists() {
     local list
     mkdir -p "$1"
     for list in /etc/apt/sources.list{,.d/*.list,.d/*.sources}; do
@@ -18,7 +18,7 @@ fetch_sources() {
     mkdir -p "$fetched/lists/partial" "$fetched/cache/archives/partial" && cd "$fetched" || return 1
     words=(-q -o Dir::Etc::sourcelist=/dev/null -o Dir::Etc::sourceparts="$PWD/parts" -o Dir::State::lists="$PWD/lists"
         -o Dir::Cache="$PWD/cache" -o Acquire::Retries=1 -o Acquire::http::Timeout=20 -o Acquire::https::Timeout=20)
-    [ -d parts ] || { source_lists "$PWD/parts" && timeout 120 apt-get "${words[@]}" update; }
+    [ -d parts ] || { write_source_package_lists "$PWD/parts" && timeout 120 apt-get "${words[@]}" update; }
     for package in "$@"; do
         [ -d "$package" ] || { timeout 120 apt-get "${words[@]}" --download-only --tar-only source "$package" &&
             mkdir "$package" && tar xf "$package"_*.orig.tar.* -C "$package" --strip-components=1; }

@@ -120,7 +120,7 @@ with_macros() {
 assemble() {
     local object=$work/macros/${1##*/}.o format=elf words=() name
     name=$(basename "$1" .s)
-    add_words "$1"
+    add_compiler_words "$1"
     [ -e "$object" ] || cc -c "$(with_macros "$1" "${1%/*}"/vulfsjor*.s)" -o "$object" || return
     cc -O2 -fno-lto -o "$2" "${words[@]}" "$object" -Wl,--gc-sections "${@:3}"
 }

@@ -22,8 +22,8 @@ sys.path.append(FOLDER)
 import functions  # noqa: E402
 import wasm_to_c  # noqa: E402
 import wasm_to_rust  # noqa: E402
-from wasm_format import MORE, PLAIN, CannotRead  # noqa: E402
-from wasm_values import Refused  # noqa: E402
+from wasm_format import MORE, PLAIN, UnreadableModule  # noqa: E402
+from wasm_values import UntranslatableModule  # noqa: E402
 
 HUGE = bool(os.environ.get("VULFSJOR_TEST_HUGE"))
 # The compilers, with words, and what runs their programs: those of the short form, of which one optimizes, and the
@@ -91,20 +91,20 @@ HAS_ALL = {known.partition(" ")[0] for known in (*PLAIN.values(), *MORE.values()
     r"^f|^if|else|nop|br_table|c[lt]z|popcnt|(div|rem)_s|init", known)}
 
 
-def header_of(results):
+def header_with_prototypes(results):
     """A header with the prototypes of these functions."""
     lines = [f"{C_TYPES[each[0]] if each else 'void'} vulfsjor_ffi_t{k}(uint8_t *a, uint64_t b, uint64_t c);"
              for k, each in enumerate(results)]
     return "\n".join(['#include <stdint.h>', '#define VULFSJOR_VERSION_NUMBER 789', *lines, ""])
 
 
-class Case:
+class ModuleCase:
     """A module of random functions, in a folder with a program in C that calls each, and what node returns."""
 
     def __init__(self, folder, seed, count):
         self.folder = folder
         self.data, results, self.lines = functions.random_module(seed, count)
-        self.header = header_of(results)
+        self.header = header_with_prototypes(results)
         self.write("m.wasm", self.data)
         self.write("vulfsjor.h", self.header.encode())
         call = "vulfsjor_ffi_t{}(buffer, in[i][0], in[i][1])".format
@@ -117,13 +117,13 @@ class Case:
         self.write("main.rs", (RUST % (", ".join(f"({a}, {b})" for a, b in INPUTS), "".join(calls))).encode())
         self.write("run.mjs", (SCRIPT % (", ".join("32" if each == ["i32"] else "64" for each in results), ", ".join(
             f"[{a}n, {b}n]" for a, b in INPUTS))).encode())
-        self.wanted = self.output(["node", "--experimental-wasm-memory64", "--no-warnings", "run.mjs"])
+        self.wanted = self.output_or_error(["node", "--experimental-wasm-memory64", "--no-warnings", "run.mjs"])
 
     def write(self, name, data):
         with open(os.path.join(self.folder, name), "wb") as file:
             file.write(data)
 
-    def output(self, words):
+    def output_or_error(self, words):
         """What a command prints, or why it fails."""
         done = subprocess.run(words, cwd=self.folder, capture_output=True, text=True, check=False,
                               timeout=20 if words[-1] == "./run" else 600)
@@ -134,9 +134,9 @@ class Case:
             self.write(name, str(translator.Program(self.data, self.header)).encode())
 
     def run(self, compiler, emulator):
-        return self.output([*compiler, "-o", "run"]) or self.output([*emulator, "./run"])
+        return self.output_or_error([*compiler, "-o", "run"]) or self.output_or_error([*emulator, "./run"])
 
-    def difference(self, got):
+    def first_differing_function(self, got):
         """The first function whose result is another than node's, or nothing."""
         pairs = list(zip(self.wanted.splitlines(), got.splitlines()))
         bad = [k for k, (a, b) in enumerate(pairs) if a != b]
@@ -155,21 +155,21 @@ def what_is_missing(tool, *emulator):
     return f"no C library for {tool}" if done.returncode else ""
 
 
-def test_targets(case, name):
+def test_results_on_each_processor(case, name):
     """The functions on each processor whose compiler is there."""
     targets = {target: ([*compiler, *IN_C], emulator)
                for target, (compiler, emulator) in {**TARGETS, **(MORE_TARGETS if HUGE else {})}.items()}
     for target, (compiler, emulator) in {**targets, "in Rust": (RUSTC, [])}.items():
         missing = what_is_missing(compiler[0], *emulator)
-        why = "" if missing else case.difference(case.run(compiler, emulator))
+        why = "" if missing else case.first_differing_function(case.run(compiler, emulator))
         tap.result(not why, f"{name}, {target}", why, missing)
 
 
 # ---- what is refused
 
-def one(text, results=("i64",), more=b"", names=("vulfsjor_ffi_t0",), exports=None):
+def module_of_one_function(text, results=("i64",), more=b"", names=("vulfsjor_ffi_t0",), exports=None):
     made = [(name, ["i64"] * 3, list(results), ["i64", "i64", "i32"], [*text.split("; "), "end"]) for name in names]
-    return functions.module(made, exports or {names[0]: 0}, more)
+    return functions.encoded_module(made, exports or {names[0]: 0}, more)
 
 
 RETURN = "local.get 1"
@@ -182,23 +182,25 @@ RUNTIME = {"__rattle_leave": "i32.const 0; global.set 1; unreachable",
            "a::scrub_stack::<=16>": "nop", "__rattle_enter": "i32.const 0"}
 # Modules with something before, after or instead of the parts of one that is translated.
 REFUSED = {
-    "an import": one(RETURN, more=functions.section(2, b"\x00")),
-    "a table": one(RETURN, more=functions.section(4, b"\x01\x70\x00\x00")),
-    "a start": one(RETURN) + functions.section(8, b"\0"),
-    "data": one(RETURN) + functions.section(11, b"\x01\0\x42\x10\x0b\x01x"),
-    "a memory of 32 bits": one(RETURN).replace(b"\x05\x03\x01\x04\x02", b"\x05\x03\x01\x00\x02"),
-    "another export": one(RETURN).replace(b"\x06memory\x02\0", b"\x06memorx\x02\0"),
-    "another function than the header's": one(RETURN, exports={"vulfsjor_ffi_t1": 0}),
-    "a function that the header lacks": one(RETURN, exports={"vulfsjor_ffi_t0": 0, "vulfsjor_ffi_t1": 0}),
-    "other globals": one(RETURN).replace(b"\x7f\x01\x41\0\x0b", b"\x7f\x01\x41\1\x0b"),
-    "two names that are one in C": one(f"{RETURN}; local.get 0; local.get 1; local.get 2; call 1; local.get 0; "
+    "an import": module_of_one_function(RETURN, more=functions.encoded_section(2, b"\x00")),
+    "a table": module_of_one_function(RETURN, more=functions.encoded_section(4, b"\x01\x70\x00\x00")),
+    "a start": module_of_one_function(RETURN) + functions.encoded_section(8, b"\0"),
+    "data": module_of_one_function(RETURN) + functions.encoded_section(11, b"\x01\0\x42\x10\x0b\x01x"),
+    "a memory of 32 bits": module_of_one_function(RETURN).replace(b"\x05\x03\x01\x04\x02", b"\x05\x03\x01\x00\x02"),
+    "another export": module_of_one_function(RETURN).replace(b"\x06memory\x02\0", b"\x06memorx\x02\0"),
+    "another function than the header's": module_of_one_function(RETURN, exports={"vulfsjor_ffi_t1": 0}),
+    "a function that the header lacks": module_of_one_function(RETURN,
+                                                               exports={"vulfsjor_ffi_t0": 0, "vulfsjor_ffi_t1": 0}),
+    "other globals": module_of_one_function(RETURN).replace(b"\x7f\x01\x41\0\x0b", b"\x7f\x01\x41\1\x0b"),
+    "two names that are one in C": module_of_one_function(
+        f"{RETURN}; local.get 0; local.get 1; local.get 2; call 1; local.get 0; "
                                        "local.get 1; local.get 2; call 2; drop; drop",
                                        names=("vulfsjor_ffi_t0", "a::b", "a:b")),
-    **{f"another {name}": functions.module(
+    **{f"another {name}": functions.encoded_module(
         [("vulfsjor_ffi_t0", ["i64"] * 3, ["i64"], [], [RETURN, "end"]),
          (name, [], ["i32"] if name == "__rattle_enter" else [], ["i64"], [*text.split("; "), "end"])],
         {"vulfsjor_ffi_t0": 0}) for name, text in RUNTIME.items()},
-    **{text: one(text) for text in (
+    **{text: module_of_one_function(text) for text in (
         f"local.get 5; if; end; {RETURN}", "block i64; local.get 1; end",  # blocks and branches
         "local.get 1; local.get 5; br_if 0", "local.get 1; br 0", f"block; local.get 5; br_table 1 0 0; end; {RETURN}",
         f"local.get 1; {RETURN}",  # operands that are left over
@@ -228,8 +230,8 @@ REFUSED = {
 }
 # What is like some of these, and is translated.
 ACCEPTED = {
-    "data of no bytes": one(RETURN) + functions.section(11, b"\x01\0\x42\x10\x0b\0"),
-    **{text: one(text) for text in (
+    "data of no bytes": module_of_one_function(RETURN) + functions.encoded_section(11, b"\x01\0\x42\x10\x0b\0"),
+    **{text: module_of_one_function(text) for text in (
         RETURN, f"{TAKE}; {GIVE}", f"{TAKE}; local.get 3; local.get 1; i64.store 24; {GIVE}",
         f"{TAKE}; local.get 3; i64.const 32; i64.add; i64.const -8; i64.add; local.get 1; i64.store 0; {GIVE}",
         f"{LOWER}; local.set 3; local.get 3; local.get 1; local.set 3; global.set 0; {RETURN}",
@@ -239,31 +241,31 @@ ACCEPTED = {
 }
 
 
-def why_refused(data):
+def refusal_of_module(data):
     """Why a module is refused, or nothing."""
     try:
-        str(wasm_to_c.Program(data, header_of([["i64"]])))
-    except (Refused, CannotRead) as why:
+        str(wasm_to_c.Program(data, header_with_prototypes([["i64"]])))
+    except (UntranslatableModule, UnreadableModule) as why:
         return str(why) or "refused"
     return ""
 
 
 def main():
     seed, count = map(int, sys.argv[1:3]) if len(sys.argv) == 3 else (1, 300 if HUGE else 40)
-    wrong = [name for name, data in REFUSED.items() if not why_refused(data)]
-    wrong += [f"{name}: {why_refused(data)}" for name, data in ACCEPTED.items() if why_refused(data)]
+    wrong = [name for name, data in REFUSED.items() if not refusal_of_module(data)]
+    wrong += [f"{name}: {refusal_of_module(data)}" for name, data in ACCEPTED.items() if refusal_of_module(data)]
     tap.result(not wrong, f"{len(REFUSED)} modules are refused, and {len(ACCEPTED)} like them are not",
                "\n".join(wrong))
     if not shutil.which("node") or not shutil.which("cc"):
         tap.result(True, "random functions next to node", skipped="no node or no cc")
         tap.finish()
     with tempfile.TemporaryDirectory() as folder:
-        case = Case(folder, seed, count)
+        case = ModuleCase(folder, seed, count)
         used = {line.split()[0] for lines in case.lines for line in lines}
         tap.result(used >= HAS_ALL, f"{count} random functions have each instruction", HAS_ALL - used)
         tap.result(len(case.wanted.splitlines()) == len(INPUTS) * count, "node calls each of them", case.wanted)
         case.translate()
-        test_targets(case, f"{len(INPUTS) * count} calls of random functions next to node")
+        test_results_on_each_processor(case, f"{len(INPUTS) * count} calls of random functions next to node")
     tap.finish()
 
 

@@ -16,13 +16,13 @@ import sys
 from common import FAMILIES, TOP, Parser
 
 sys.path.insert(0, os.path.join(TOP, "tests", "conformance"))
-from model import message_span  # noqa: E402
+from model import sample_message_slice  # noqa: E402
 
 GO = "/usr/share/gocode/src/golang.org/x/crypto"
 LENGTHS = (0, 1, 63, 64, 65, 127, 128, 129, 500)
 
 
-def hkdf(family, salt, secret, info, length):
+def hkdf_key(family, salt, secret, info, length):
     """A key by HKDF, in the two steps of RFC 5869, 2.2 and 2.3."""
     extracted = hmac.new(salt or bytes(family.key), secret, family.function).digest()
     block = key = b""
@@ -32,22 +32,23 @@ def hkdf(family, salt, secret, info, length):
     return key[:length]
 
 
-def macs_and_keys(letter):
+def mac_and_key_lines(letter):
     """The lines of a family: a kind, its inputs, and the result."""
     family = FAMILIES[letter]
     for n in LENGTHS:
-        key, data = message_span(2 * n, 3 * n), message_span(n, 300 + n // 2)
+        key, data = sample_message_slice(2 * n, 3 * n), sample_message_slice(n, 300 + n // 2)
         yield "hmac", key, data, hmac.new(key, data, family.function).digest()
     for n in LENGTHS:
-        salt, info = message_span(3 * n, 4 * n), message_span(5 * n, 5 * n + 9)
-        yield "hkdf", salt, message_span(n, 2 * n), info, hkdf(family, salt, message_span(n, 2 * n), info, 1 + n)
+        salt, info = sample_message_slice(3 * n, 4 * n), sample_message_slice(5 * n, 5 * n + 9)
+        yield "hkdf", salt, sample_message_slice(n, 2 * n), info, hkdf_key(family, salt, sample_message_slice(n, 2 * n),
+                                                                           info, 1 + n)
     for rounds in (1, 2, 100):
-        password, salt = message_span(1, 10), message_span(3, 19)
+        password, salt = sample_message_slice(1, 10), sample_message_slice(3, 19)
         key = hashlib.pbkdf2_hmac(f"blake2{letter}", password, salt, rounds, 80)
         yield "pbkdf2", password, salt, rounds, key
 
 
-def authors_cases(letter):
+def authors_vector_cases(letter):
     """The authors' vectors of BLAKE2X, which golang.org/x/crypto has in its tests: 256 outputs of 1 to 256 bytes of a
     message of 256, under the longest key, or FileNotFoundError."""
     path = os.path.join(os.environ.get("VULFSJOR_GO_CRYPTO", GO), f"blake2{letter}", f"blake2{letter}_test.go")
@@ -66,7 +67,7 @@ def main():
     chosen.add_argument("--authors", choices=sorted(FAMILIES), help="print the authors' outputs of BLAKE2X")
     given = parser.parse_args()
     try:
-        for line in macs_and_keys(given.lines) if given.lines else authors_cases(given.authors):
+        for line in mac_and_key_lines(given.lines) if given.lines else authors_vector_cases(given.authors):
             print(*(field.hex() or "-" if isinstance(field, bytes) else field for field in line))
     except FileNotFoundError:
         return 1

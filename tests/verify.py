@@ -44,18 +44,18 @@ OF_CRATE = ("dist/rust/vulfsjor.rs", *(f"dist/{kind}/elf.inc" for kind in same_c
 SHOWN, ONLY_TESTED, LATER, ABSENT = "shown", "only tested", "not tried: takes ./verify --long", "not in the file"
 
 
-class Stop(Exception):
+class CannotVerify(Exception):
     """Nothing can be tried."""
 
 
-class Task(NamedTuple):
+class ProofTask(NamedTuple):
     """A part of the proof: the text, the exported calls that it is about, and what shows it."""
     path: str
     calls: list
     show: Callable
 
 
-class Found(NamedTuple):
+class ProofSubject(NamedTuple):
     """What is about to be shown: texts of dist/; a file for the hash; why the code of some calls is not that of the
     texts, None for those of which it is; and a line about what was compared."""
     paths: list
@@ -64,17 +64,17 @@ class Found(NamedTuple):
     compared: str
 
 
-def text_of_machine():
+def assembly_text_of_machine():
     """The text in dist/ that this machine runs."""
     level = subprocess.run([os.path.join(TOP, "tests", "processor.sh")], stdout=subprocess.PIPE, text=True,
                            check=True).stdout.strip().rpartition("-")[2]
     builds = same_code.BUILDS.get(platform.machine())
     if not builds:
-        raise Stop(f"there is no assembly for {platform.machine()}, and portable C is only tested")
+        raise CannotVerify(f"there is no assembly for {platform.machine()}, and portable C is only tested")
     return builds.get(level) or builds["arm"]
 
 
-def need_tools(paths):
+def stop_if_tools_are_missing(paths):
     """Stops if something is missing that texts need, and names its package."""
     absent = [] if facts.z3 or not paths else ["Python's module z3 (Debian: python3-z3)"]
     for path in paths:
@@ -82,7 +82,7 @@ def need_tools(paths):
         absent += [f"{tool} (Debian: {PACKAGES.get(tool, 'gcc')})" for tool in
                    (compiler[0], prefix + "ld", prefix + "objdump") if not shutil.which(tool)]
     if absent:
-        raise Stop("missing: " + ", ".join(dict.fromkeys(absent)))
+        raise CannotVerify("missing: " + ", ".join(dict.fromkeys(absent)))
 
 
 # What is shown of a text.
@@ -90,53 +90,54 @@ def need_tools(paths):
 EXPORTS = list(constant_time.SIGNATURES)       # as c/include/vulfsjor.h has them; or one of them
 
 
-def family_of(name):
+def family_and_call_suffix(name):
     """The family of an exported call, and the end of its name."""
     family, end = constant_time.NAME.fullmatch(name).groups()
     return ("", family) if family in call_cases.ALONE else (family, end)
 
 
-def is_all(path, family, is_long):
+def are_all_cases_tried(path, family, is_long):
     """Whether all cases of a family's calls are tried, and not some."""
     return not family or is_long and ("x" not in family or path == check.ALL_OF_X)
 
 
-def show_call(path, family, end, *numbers):
+def prove_call_cases(path, family, end, *numbers):
     """The cases of a call, with some numbers or all."""
     call_cases.cases(programs.read(path), family, *numbers).prove_export(end)
 
 
-def tasks_of(path, is_long):
+def proof_tasks_of_text(path, is_long):
     """The parts of the proof of a text."""
     names = [n for n in call_cases.shown_names(programs.read(path))
-             if n in EXPORTS and (is_long or family_of(n)[0] in QUICK)]
+             if n in EXPORTS and (is_long or family_and_call_suffix(n)[0] in QUICK)]
     for name in names:
-        family, end = family_of(name)
-        show = partial(show_call, path, family, end)
-        if end == "_update" and is_all(path, family, is_long):
+        family, end = family_and_call_suffix(name)
+        show = partial(prove_call_cases, path, family, end)
+        if end == "_update" and are_all_cases_tried(path, family, is_long):
             pending = range(call_cases.KINDS[family].block + 1)
-            yield from (Task(path, [name], partial(show, pending[k::4])) for k in range(4))
+            yield from (ProofTask(path, [name], partial(show, pending[k::4])) for k in range(4))
         else:
-            numbers = () if is_all(path, family, is_long) else call_cases.short_form_numbers(family)
-            yield Task(path, [name], partial(show, *numbers))
-    yield from compressions_of(path, names, is_long)
-    compress = [n for n in names if family_of(n)[0]]       # memcmp and wipe do not
-    for show, calls in ((check.prove_scrub_stacks, compress), (check.find_unlisted_functions, compress),
+            numbers = () if are_all_cases_tried(path, family, is_long) else call_cases.short_form_numbers(family)
+            yield ProofTask(path, [name], partial(show, *numbers))
+    yield from compression_tasks(path, names, is_long)
+    compress = [n for n in names if family_and_call_suffix(n)[0]]       # memcmp and wipe do not
+    for show, calls in ((check.prove_scrub_stacks, compress), (check.check_rotating_functions_are_listed, compress),
                         (check.check_whole_file, names)):
         if calls:
-            yield Task(path, calls, partial(show, path))
+            yield ProofTask(path, calls, partial(show, path))
 
 
-def compressions_of(path, names, is_long):
+def compression_tasks(path, names, is_long):
     """Those of its functions that compress: of one message, or of several too."""
     for function in functions.FILES[path]:
         _, kind, lanes = function
-        calls = [n for n in names if family_of(n)[0] and call_cases.KINDS.get(family_of(n)[0]) is kind]
+        calls = [n for n in names if family_and_call_suffix(n)[0] and
+                 call_cases.KINDS.get(family_and_call_suffix(n)[0]) is kind]
         if calls and (lanes == 1 or is_long):
-            yield Task(path, calls, partial(check.prove_one_compression, path, *function))
+            yield ProofTask(path, calls, partial(check.prove_one_compression, path, *function))
 
 
-def try_all(tasks):
+def failures_of_tasks(tasks):
     """Why calls are not shown, by the text and the name."""
     check.ALL[:] = [check.Job(str(k), None, task.show) for k, task in enumerate(tasks)]
     whys = {}
@@ -146,23 +147,23 @@ def try_all(tasks):
     return whys
 
 
-def how_shown(path, name, is_long):
+def proof_description(path, name, is_long):
     """What is said of a call if nothing fails."""
-    family, end = family_of(name)
+    family, end = family_and_call_suffix(name)
     if functions.architecture(path) == "wasm" or name not in call_cases.shown_names(programs.read(path)):
         return ONLY_TESTED
     if not is_long and family not in QUICK:
         return LATER
-    if is_all(path, family, is_long) or "x" not in family and end not in IN_PART:
+    if are_all_cases_tried(path, family, is_long) or "x" not in family and end not in IN_PART:
         return SHOWN
     kind = call_cases.KINDS[family]
     return f"{SHOWN} {IN_PART.get(end, '') if 'x' not in family else 'in some cases'}" % {
         "block": kind.block, "less": kind.w - 1, "most": kind.w}
 
 
-def line_of(paths, name, whys, is_long):
+def result_line_of_call(paths, name, whys, is_long):
     """What is said of a call: once, if it is the same of all texts."""
-    said = {path: whys.get((path, name)) or how_shown(path, name, is_long) for path in paths}
+    said = {path: whys.get((path, name)) or proof_description(path, name, is_long) for path in paths}
     wrong = [f"{path}: {text}" for path, text in said.items() if text.startswith("not shown")]
     if wrong or len(set(said.values())) == 1:
         return f"not shown: {'; '.join(wrong)}" if wrong and len(paths) > 1 else list(said.values())[0]
@@ -171,78 +172,80 @@ def line_of(paths, name, whys, is_long):
 
 # What is compared of a file.
 
-def read(path):
+def read_file(path):
     """The bytes of a file."""
     with open(path, "rb") as file:
         return file.read()
 
 
-def compared_code(name, data, is_long):
+def subject_of_linked_file(name, data, is_long):
     """What is to be shown of a linked file, of this name."""
     if data.startswith(b"!<arch>"):
-        data = same_code.linked(data)
-    builds, whys, has_names = same_code.compare(data, (functions.ONE_B[0], functions.ONE_S[0]))
+        data = same_code.link_archive(data)
+    builds, whys, has_names = same_code.compare_code_with_texts(data, (functions.ONE_B[0], functions.ONE_S[0]))
     if not builds:
-        raise Stop(f"{name} has no code of dist/: it is of another version, or of portable C, which is only tested")
+        raise CannotVerify(f"{name} has no code of dist/: it is of another version, or of portable C, which is only "
+                           "tested")
     whys = {call: why for call, why in whys.items() if call in EXPORTS}
     paths = list(builds.values())
-    machine = [path for path in paths if path == text_of_machine()]
-    return Found(paths if is_long else machine or paths[:1], name, whys,
+    machine = [path for path in paths if path == assembly_text_of_machine()]
+    return ProofSubject(paths if is_long else machine or paths[:1], name, whys,
                  f"The code of {name} was compared with {', '.join(paths)}" + (
                      "." if has_names else ": only that it is there, since the file does not name the calls."))
 
 
-def compared_files(folder, names, paths, file):
+def subject_of_folder(folder, names, paths, file):
     """What is to be shown of a folder, some of whose files have to be those of this repository."""
     differ = [n for n, place in names.items() if not os.path.isfile(os.path.join(folder, n))
-              or read(os.path.join(folder, n)) != read(os.path.join(TOP, place))]
+              or read_file(os.path.join(folder, n)) != read_file(os.path.join(TOP, place))]
     why = f"{', '.join(differ)} of {folder}: not as in this repository" if differ else None
-    return Found(paths, os.path.join(folder, file), dict.fromkeys(EXPORTS, why),
+    return ProofSubject(paths, os.path.join(folder, file), dict.fromkeys(EXPORTS, why),
                  f"Compared with this repository: {', '.join(names)}.")
 
 
-def found_in(name, is_long):
+def subject_of_path(name, is_long):
     """What is to be shown of a file or folder."""
     has = lambda file: os.path.isfile(os.path.join(name, file))
     if has("package.json"):
         modules = [path for path in functions.FILES if path.startswith("js/")]
-        return compared_files(name, {f"src/{file}": f"js/src/{file}" for file in OF_NODE}, modules, "src/wasm.js")
+        return subject_of_folder(name, {f"src/{file}": f"js/src/{file}" for file in OF_NODE}, modules, "src/wasm.js")
     texts = [path for path in OF_CRATE if path.endswith(".s")]
     if has("Cargo.toml"):
-        text = text_of_machine()
-        return compared_files(name, {n: n for n in OF_CRATE}, texts if is_long else [text], text)
+        text = assembly_text_of_machine()
+        return subject_of_folder(name, {n: n for n in OF_CRATE}, texts if is_long else [text], text)
     if os.path.isdir(name):
-        raise Stop(f"{name} is not the folder of the crate or of the package for node")
+        raise CannotVerify(f"{name} is not the folder of the crate or of the package for node")
     if os.path.relpath(os.path.abspath(name), TOP) in texts:
-        return Found([os.path.relpath(os.path.abspath(name), TOP)], name, dict.fromkeys(EXPORTS), "")
+        return ProofSubject([os.path.relpath(os.path.abspath(name), TOP)], name, dict.fromkeys(EXPORTS), "")
     if not zipfile.is_zipfile(name):
-        return compared_code(name, read(name), is_long)
+        return subject_of_linked_file(name, read_file(name), is_long)
     with zipfile.ZipFile(name) as wheel:
         modules = [n for n in wheel.namelist() if n.endswith(".so")]
         if len(modules) != 1:
-            raise Stop(f"{name} has {len(modules)} modules in machine code, and not one")
-        return compared_code(name, wheel.read(modules[0]), is_long)
+            raise CannotVerify(f"{name} has {len(modules)} modules in machine code, and not one")
+        return subject_of_linked_file(name, wheel.read(modules[0]), is_long)
 
 
-def to_show(name, is_long):
+def subject_or_own_texts(name, is_long):
     """What is to be shown: of a file, or of dist/."""
     if name:
-        return found_in(os.path.abspath(name), is_long)
+        return subject_of_path(os.path.abspath(name), is_long)
     texts = [path for builds in same_code.BUILDS.values() for path in builds.values()]
-    return Found(texts if is_long else [text_of_machine()], text_of_machine(), dict.fromkeys(EXPORTS), "")
+    return ProofSubject(texts if is_long else [assembly_text_of_machine()], assembly_text_of_machine(),
+                        dict.fromkeys(EXPORTS), "")
 
 
 def verify(name, is_long):
     """Prints the lines. Returns the status."""
-    found = to_show(name, is_long)
+    found = subject_or_own_texts(name, is_long)
     assembly = [path for path in found.paths if functions.architecture(path) != "wasm"]
-    need_tools(assembly)
-    tasks = [task for path in assembly for task in tasks_of(path, is_long)]
+    stop_if_tools_are_missing(assembly)
+    tasks = [task for path in assembly for task in proof_tasks_of_text(path, is_long)]
     for path in found.paths:
-        tasks += compressions_of(path, EXPORTS, is_long) if path not in assembly else ()
-    whys, lines = try_all(tasks), []
+        tasks += compression_tasks(path, EXPORTS, is_long) if path not in assembly else ()
+    whys, lines = failures_of_tasks(tasks), []
     for call in EXPORTS:
-        line = line_of(found.paths, call, whys, is_long) if call in found.whys else ABSENT
+        line = result_line_of_call(found.paths, call, whys, is_long) if call in found.whys else ABSENT
         lines.append(f"not shown: {found.whys[call]}" if found.whys.get(call) else line)
         print(f"{call:<41} {lines[-1]}")
     if found.compared:
@@ -250,7 +253,7 @@ def verify(name, is_long):
     kinds = [line if line == SHOWN else "shown in part" if line.startswith(SHOWN) else line.partition(":")[0]
              for line in lines]
     print(", ".join(f"{kinds.count(kind)} {kind}" for kind in dict.fromkeys([SHOWN, *kinds])) +
-          f": sha256 {hashlib.sha256(read(os.path.join(TOP, found.file))).hexdigest()} {found.file}")
+          f": sha256 {hashlib.sha256(read_file(os.path.join(TOP, found.file))).hexdigest()} {found.file}")
     return int("not shown" in kinds)
 
 
@@ -266,7 +269,7 @@ def main(arguments):
         EXPORTS[:] = [call_cases.PREFIX + given.call]
     try:
         return verify(given.file, given.long)
-    except (Stop, same_code.CannotCompare, OSError, zipfile.BadZipFile) as e:
+    except (CannotVerify, same_code.CannotCompare, OSError, zipfile.BadZipFile) as e:
         print(f"verify: {e}", file=sys.stderr)
         return 2
 

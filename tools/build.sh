@@ -1,20 +1,20 @@
 # How the files of dist/ are built, for tools/dist.sh and tools/lower.sh, which read this file by `source` after
-# tools/toolchain.sh. Both have `says_origin CRATE`, which prints the first line of a text.
+# tools/toolchain.sh. Both have `print_origin_comment CRATE`, which prints the first line of a text.
 
 # The crate of a file.
-crate_of() {
+crate_of_file() {
     case ${1##*/} in b2sum*) echo b2sum ;; b2*) echo b2 ;; *) echo blake2_ffi ;; esac
 }
 
 # The functions of a crate that C has instead, by c/b2sum.c.
-theirs_of() {
+functions_replaced_by_c() {
     [ "$1" != b2sum ] ||
         printf 'b2sum::%s\n' hashes::absorb_tree disk::hide_memory disk::show_progress
 }
 
 # The functions of the C library that a crate gets from C of ours instead: those of c/b2sum.c. They
 # have names of their own, so nothing else in the program gets them.
-ours_of() { [ "$1" != b2sum ] || printf "%s=b2sum_%s\n" open open read read close close \
+c_functions_for_crate() { [ "$1" != b2sum ] || printf "%s=b2sum_%s\n" open open read read close close \
     __sysv_signal signal __xpg_strerror_r strerror; }
 
 # Writes an edit of LLVM's text of a crate, by which its programs hash by the functions of the library
@@ -46,7 +46,7 @@ write_sharing_edit() {
 build() {
     local to=$1/$2 file=$2 crate kind=(--crate-type staticlib) more=() room target cpu end
     local make=make_toolchain edit=
-    crate=$(crate_of "$file") room=$work/$crate
+    crate=$(crate_of_file "$file") room=$work/$crate
     case $file in
         x86_64/b2*.s) target=x86_64-unknown-linux-gnu cpu=x86-64-v2 end=x86 \
             more=(-mllvm -force-attribute=noredzone) ;;
@@ -76,7 +76,7 @@ build() {
     [[ $file != x86_64/vulfsjor-v[23].s ]] || cp "$top/tools/rotations.sed" "$room/toolchain-rotations.sed"
     $make "$room/toolchain" "$edit" "${more[@]}"
     mkdir -p "$(dirname "$to")"
-    build_crate "$top/crates/$crate" "$crate" "$(libraries_of "$crate")" "$room" "${kind[@]}" \
+    build_crate "$top/crates/$crate" "$crate" "$(libraries_named_by_crate "$crate")" "$room" "${kind[@]}" \
         --target "$target" --cpu "$cpu" --toolchain "$room/toolchain" -o "$room/built" \
         >"$room/log" 2>&1 || {
         cat "$room/log" >&2
@@ -89,9 +89,9 @@ build() {
         "$top/tools/wasm_to_${file%%/*}.py" "$room/module.wasm" "$top/c/include/vulfsjor.h" >"$to"
     else
         {
-            says_origin "$crate"
+            print_origin_comment "$crate"
             "$top/tools/plain_names.py" "_$(code_number)_$end" \
-                $(theirs_of "$crate") $(ours_of "$crate") \
+                $(functions_replaced_by_c "$crate") $(c_functions_for_crate "$crate") \
                 <"$room/toolchain/module.s" >"$room/module.s"
             "$top/tools/object_formats.py" $(sed 's/::/../g' "$top/tools/shared_functions.txt") <"$room/module.s"
         } >"$to"

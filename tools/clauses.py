@@ -34,7 +34,7 @@ FAILED = re.compile(r"^(?:fn (\S+): no|(\./\S+\.antt):\d+:\d+: error)", re.M)
 Part = collections.namedtuple("Part", "file start end function clause shown")
 
 
-def clauses(file, text):
+def ensures_clauses(file, text):
     """Yields what is between the braces of each `ensures` of a source."""
     function = ""
     for word in re.finditer(rf"{FUNCTION}|^\s+ensures(?: (\w+))? ({BRACES})", text, re.M):
@@ -44,7 +44,7 @@ def clauses(file, text):
             yield Part(file, word.start(3) + 1, word.end(3) - 1, function, word[2] or "", shown)
 
 
-def conjuncts(file, text):
+def record_facts_and_conjuncts(file, text):
     """Yields each field of a record that is a fact, and each conjunct of a definition that stands on its own line."""
     name = ""
     lines = re.finditer(r"^(?:abbrev |pub |record )+(\w+)|^  pub (\w+) : (.*(?:\n      .*)*)|^    × (.*(?:\n     .*)*)",
@@ -58,7 +58,7 @@ def conjuncts(file, text):
             yield Part(file, line.start(4), line.end(4), "", "", f"{name} × {line[4][:40]}")
 
 
-def read(src):
+def callers_and_check_names(src):
     """Returns, for each function of sources by its name, the functions whose code may call it, since that has its name
     before `(`, after `::` or as an argument, and how `rt check --only` names it: its module if others have its name."""
     code, by, places = collections.defaultdict(str), collections.defaultdict(set), collections.defaultdict(list)
@@ -76,7 +76,7 @@ def read(src):
         {name: {*found} if len(found) > 1 else {name} for name, found in places.items()}
 
 
-def above(crate):
+def crate_and_its_users(crate):
     """Returns a crate and those that use it, lowest first, as crates.txt has them."""
     uses = {}
     for line in (ROOT / "crates.txt").read_text().splitlines():
@@ -89,7 +89,7 @@ def above(crate):
     return found
 
 
-def without(parts):
+def texts_without_parts(parts):
     """Returns the texts of files without these parts, and without what proofs of their own functions answer to them."""
     texts = {}
     for part in sorted(parts, key=lambda it: -it.start):
@@ -103,9 +103,9 @@ def without(parts):
     return texts
 
 
-def check(folder, parts, words=()):
+def check_crate_without_parts(folder, parts, words=()):
     """Runs `rt check` in a crate without these parts, and returns its status and what it said."""
-    texts = without(parts)
+    texts = texts_without_parts(parts)
     were = {file: file.read_text() for file in texts}
     for file, text in texts.items():
         file.write_text(text)
@@ -115,17 +115,17 @@ def check(folder, parts, words=()):
     return ran.returncode, ran.stdout + ran.stderr
 
 
-def failing(folders, parts=()):
+def failures_without_parts(folders, parts=()):
     """Returns what fails in crates without these parts, or nothing."""
     for folder in folders:
-        status, said = check(folder, parts)
+        status, said = check_crate_without_parts(folder, parts)
         if status:
             first = FAILED.search(said)
             return f"{folder.name}: {(first[1] or first[2]) if first else f'status {status}'}"
     return ""
 
 
-def batch(parts, by):
+def independent_parts(parts, by):
     """Returns parts that may go together: no two of a function or with a caller in common, and no caller's own."""
     taken, used = {}, set()
     for part in sorted(parts, key=lambda it: -len(by[it.function])):
@@ -135,11 +135,12 @@ def batch(parts, by):
     return [*taken.values()]
 
 
-def needs(folder, parts, by, places):
+def parts_with_their_needs(folder, parts, by, places):
     """Takes these parts away and proves their functions' callers. Yields each part with what needs it: nothing if all
     are proved, and `?` if one cannot be, for what it calls."""
     names = sorted(set().union(*(by[it.function] for it in parts)))
-    status, said = check(folder, parts, [it for name in names for place in places[name] for it in ("--only", place)])
+    status, said = check_crate_without_parts(folder, parts, [it for name in names for place in places[name]
+                                                             for it in ("--only", place)])
     if status not in (0, 1, 3):
         sys.exit(f"rt check of {folder.name} ended with status {status}:\n{said[-2000:]}")
     results = collections.defaultdict(str)
@@ -152,38 +153,38 @@ def needs(folder, parts, by, places):
         yield part, next((name for name, it in own.items() if "no" in it), "?" if any(own.values()) else "")
 
 
-def unneeded(folders, parts, is_late):
+def removable_parts(folders, parts, is_late):
     """Yields each part with what fails without it, or nothing if all may go: together, or else by halves."""
     if not parts or is_late():
         return
-    why = failing(folders, parts)
+    why = failures_without_parts(folders, parts)
     if why and len(parts) > 1:
-        yield from unneeded(folders, parts[:len(parts) // 2], is_late)
-        yield from unneeded(folders, parts[len(parts) // 2:], is_late)
+        yield from removable_parts(folders, parts[:len(parts) // 2], is_late)
+        yield from removable_parts(folders, parts[len(parts) // 2:], is_late)
     else:
         yield from ((part, why) for part in parts)
 
 
-def judged(folders, parts, is_late):
+def parts_with_verdicts(folders, parts, is_late):
     """Yields parts of a crate with what needs them, or nothing: its clauses, and then those of its definitions."""
-    by, places = read(folders[0] / "src")
+    by, places = callers_and_check_names(folders[0] / "src")
     free = [it for it in parts if it.function and not by[it.function]]
     rest, tried = [it for it in parts if it.function and by[it.function]], 0
     while rest and not is_late():
         left, again = rest, []
         while left and not is_late():
-            now = batch(left, by)
+            now = independent_parts(left, by)
             left = [it for it in left if it not in now]
-            for part, why in needs(folders[0], now, by, places):
+            for part, why in parts_with_their_needs(folders[0], now, by, places):
                 if why not in ("", "?"):
                     yield part, f"{folders[0].name}: {why}"
                 else:
                     (again if why and len(rest) != tried else free).append(part)
         rest, tried = again, len(rest)
-    yield from unneeded(folders, free, is_late)
+    yield from removable_parts(folders, free, is_late)
     for part in parts:
         if not part.function:
-            yield from unneeded(folders, [part], is_late)
+            yield from removable_parts(folders, [part], is_late)
 
 
 def main():
@@ -201,14 +202,16 @@ def main():
         for name in ("crates.txt", "HANDLES"):
             shutil.copy(ROOT / name, folder)
         for crate in options.crates:
-            folders = [crates / it for it in above(crate)][:1 if options.alone else None]
+            folders = [crates / it for it in crate_and_its_users(crate)][:1 if options.alone else None]
             files = sorted(it for it in folders[0].glob("s*/**/*") if it.suffix in (".rt", ".antt"))
             parts = [it for file in files
-                     for it in (clauses if file.suffix == ".rt" else conjuncts)(file, file.read_text())]
+                     for it in (ensures_clauses if file.suffix == ".rt"
+                                else record_facts_and_conjuncts)(file, file.read_text())]
             counts["left"] += len(parts)
-            if failed := not options.list and failing(folders):
+            if failed := not options.list and failures_without_parts(folders):
                 sys.exit(f"the crates have to pass as they are: {failed}")
-            found = judged(folders, parts, lambda: time.monotonic() > end) if not options.list else zip(parts, parts)
+            found = parts_with_verdicts(folders, parts,
+                                        lambda: time.monotonic() > end) if not options.list else zip(parts, parts)
             for part, why in found:
                 result = "left" if options.list else "needed" if why else "UNNEEDED"
                 counts["left"] -= 1

@@ -17,7 +17,7 @@ KEYED = re.compile(r'"blake2_digest::wiping::scrub_stack::.*":')
 TAIL = re.compile(r"\tj\w+\t(?!\.L)")
 
 
-def cleared(lines):
+def with_clearing_instructions(lines):
     """The lines of a function, with the instructions that clear."""
     used = {int(number) for line in lines for number in UPPER.findall(line)}
     if any(map(KEYED.fullmatch, lines)):
@@ -33,7 +33,7 @@ def main():
     for line in sys.stdin.read().split("\n"):
         lines.append(line)
         if line.startswith(".Lfunc_end"):
-            print("\n".join(cleared(lines)))
+            print("\n".join(with_clearing_instructions(lines)))
             lines = []
     print("\n".join(lines), end="")
 

@@ -31,7 +31,7 @@ KINDS = [
 ]
 
 
-def kind_of(path):
+def kind_of_file(path):
     return next((kind for kind, expression in KINDS if re.fullmatch(expression, path)), "other")
 
 
@@ -43,7 +43,7 @@ def main():
     for path in filter(None, paths):
         with open(os.path.join(top, path), encoding="utf-8", errors="replace") as file:
             text = file.read()
-        kind = "generated" if "Made by tools/twins.py" in text.partition("\n")[0] else kind_of(path)
+        kind = "generated" if "Made by tools/twins.py" in text.partition("\n")[0] else kind_of_file(path)
         texts[kind][path] = text
     lines = {kind: sum(text.count("\n") for text in files.values()) for kind, files in texts.items()}
     for kind in sorted(texts):

@@ -37,9 +37,9 @@ source "$top/tools/build.sh"
 
 # A hash of all that decides what is compiled except the toolchain. A line that is a comment decides
 # nothing, and of the header what tools/wasm_to_c.py reads: structs, and functions vulfsjor_ffi_*.
-sources() {
+hash_of_sources() {
     local folders
-    folders=$(crates_of "${crates[@]}" | sort -u | sed 's|.*|crates/&/src|') || return
+    folders=$(crates_and_dependencies "${crates[@]}" | sort -u | sed 's|.*|crates/&/src|') || return
     cd "$top" && {
         find $folders -name '*.rt' | LC_ALL=C sort |
             xargs awk 'FNR == 1 { print "== " FILENAME } !/^[ \t]*\/\//' &&
@@ -53,32 +53,32 @@ sources() {
 }
 
 # The lines of MANIFEST for the files as they are.
-sums() { cd "$top/dist" && sha256 "${files[@]}" "${by_hand[@]}" "${around[@]}"; }
+hash_lines_of_dist() { cd "$top/dist" && sha256 "${files[@]}" "${by_hand[@]}" "${around[@]}"; }
 
 # What MANIFEST says of this word, and what follows from it.
-said() { sed -n "s/^# $1: //p" "$manifest"; }
-is_whole() {
+manifest_value_of() { sed -n "s/^# $1: //p" "$manifest"; }
+has_all_listed_files() {
     local file wanted sums name
     for file in "${files[@]}" "${by_hand[@]}" "${around[@]}"; do
         name=dist/$file
         [ -f "$top/dist/$file" ] || { echo "dist.sh: there is no ${name#dist/../}" >&2 && return 1; }
     done
-    wanted=$(sed '/^#/d' "$manifest") && sums=$(sums) || return 2
+    wanted=$(sed '/^#/d' "$manifest") && sums=$(hash_lines_of_dist) || return 2
     [ "$sums" != "$wanted" ] || return 0
     diff <(echo "$wanted") - <<<"$sums" | sed -n 's|^[<>] [0-9a-f]*  |dist/|p' | sort -u |
         sed 's|^dist/\.\./||; s|^|dist.sh: not as in dist/MANIFEST: |' >&2
     return 1
 }
-is_current() {
+sources_match_manifest() {
     local wanted hash
-    wanted=$(said sources) && hash=$(sources) || return 2
+    wanted=$(manifest_value_of sources) && hash=$(hash_of_sources) || return 2
     [ "$wanted" = "$hash" ]
 }
-has_same_tools() { [ "$(said tools)" = "$(hash_of_tools)" ]; }
+toolchain_matches_manifest() { [ "$(manifest_value_of tools)" = "$(hash_of_tools)" ]; }
 
 # ---- building
 
-says_origin() { echo "/* Made by tools/dist.sh from the proved crate $1. dist/README.md says how. */"; }
+print_origin_comment() { echo "/* Made by tools/dist.sh from the proved crate $1. dist/README.md says how. */"; }
 
 # Makes these files in a folder, those of a crate one by one and those of the crates side by side.
 make() {
@@ -87,13 +87,13 @@ make() {
     for file; do
         [[ " ${files[*]} " == *" $file "* ]] || stop "there is no file $file in dist/"
     done
-    for crate in $(for file; do crate_of "$file"; done | sort -ur); do
+    for crate in $(for file; do crate_of_file "$file"; done | sort -ur); do
         mkdir "$work/$crate"
         prove_libraries "$crate" "$work/log" || stop "the crates below $crate are not proved"
     done
     for crate in "${crates[@]}"; do
         for file; do
-            [ "$(crate_of "$file")" != "$crate" ] || build "$folder" "$file"
+            [ "$(crate_of_file "$file")" != "$crate" ] || build "$folder" "$file"
         done &
         lanes+=($!)
     done
@@ -109,7 +109,7 @@ write_manifest() {
         echo "# kit: $(rt version)"
         echo "# tools: $(hash_of_tools)"
         echo "# sources: $1"
-        sums
+        hash_lines_of_dist
     } >"$work/MANIFEST"
     mv "$work/MANIFEST" "$manifest"
 }
@@ -120,7 +120,7 @@ renew_sums() {
     while read -r line; do
         grep -qxF -- "$line" "$manifest" || stop "dist/${line#*  } is not as in MANIFEST: run make dist"
     done < <(cd "$top/dist" && sha256 "${files[@]}")
-    { sed '/^#/!d' "$manifest" && sums; } >"$work/MANIFEST"
+    { sed '/^#/!d' "$manifest" && hash_lines_of_dist; } >"$work/MANIFEST"
     mv "$work/MANIFEST" "$manifest"
 }
 
@@ -133,15 +133,15 @@ compare_hashes() {
     for tool in awk cat cut diff find sed "$(has shasum && echo shasum || echo sha256sum)" sort xargs; do
         has "$tool" || { echo "dist.sh: there is no $tool on the PATH" >&2 && exit 2; }
     done
-    is_whole || status=$?
+    has_all_listed_files || status=$?
     [ $status -ne 1 ] || stop "if you have changed it, run tools/dist.sh sums, or make dist for what is made"
-    [ $status -ne 0 ] || is_current || status=$?
+    [ $status -ne 0 ] || sources_match_manifest || status=$?
     [ $status -ne 1 ] || stop "dist/ was not made from these sources: run make dist"
     [ $status -eq 0 ] || { echo "dist.sh: dist/ could not be compared with these sources" >&2 && exit $status; }
 }
 
 # Whether the files that are made are those of a folder: names each that is not.
-are_those_of() {
+made_files_equal() {
     local file status=0
     for file in "${files[@]}"; do cmp "$top/dist/$file" "$1/$file" || status=1; done
     return $status
@@ -153,10 +153,11 @@ case ${1-},$# in
     sums,1) renew_sums && exit ;;
     check,1)
         compare_hashes
-        { has rt && has_same_tools; } ||
-            { echo "only hashes were compared: dist/ was made with another toolchain, $(said kit)" && exit; }
+        { has rt && toolchain_matches_manifest; } ||
+            { echo "only hashes were compared: dist/ was made with another toolchain, $(manifest_value_of kit)" &&
+            exit; }
         "$0" make "$work/dist" "${files[@]}" || stop "nothing was compared"
-        are_those_of "$work/dist"
+        made_files_equal "$work/dist"
         exit
         ;;
     make,1 | make,[3-9] | make,[1-9][0-9]) ;;
@@ -167,7 +168,7 @@ if [ $# -gt 1 ]; then
     mkdir -p "$2"
     make "$(readlink -f "$2")" "${@:3}"
 else
-    before=$(sources)
+    before=$(hash_of_sources)
     make "$top/dist" "${files[@]}"
     write_manifest "$before"
 fi

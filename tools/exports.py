@@ -15,7 +15,7 @@ import subprocess
 import sys
 import textwrap
 
-from read_sources import TOP, items, modules, read, version
+from read_sources import TOP, parse_items, modules_of_crate, read, version
 
 HEADER, CHOOSE, CALLS, LIBRARY = "c/include/vulfsjor.h", "c/choose.c", "c/thunks.h", "rust/src/library.rs"
 ABI, MAP = "c/abi.txt", "c/vulfsjor.map"
@@ -55,7 +55,7 @@ def without_comments(text):
     return re.sub(r"/\*.*?\*/|//[^\n]*", "", text, flags=re.DOTALL)
 
 
-def of_c(words):
+def parse_c_declaration(words):
     """A declaration of C, such as `const uint8_t *a` or `uint64_t rows[8][4]`: its name and its type as in Rust."""
     const, type_, star, name, many = re.fullmatch(r"(const )?(\w+) ?(\*?)(\w+)((?:\[\d+\])*)", words).groups()
     type_ = NUMBERS.get(type_, type_.removeprefix("vulfsjor_"))
@@ -63,13 +63,13 @@ def of_c(words):
     return name, pointer + (type_ or "u8") + many
 
 
-def state_of(name):
+def c_name_of_state(name):
     """What State is called in C in a module of this name, or in a struct that C calls so: blake2b_state in others."""
     family = re.search("blake2x?[bs]p?", name)
     return (family[0] if family else "blake2b") + "_state"
 
 
-def of_rust(words, state):
+def parse_rust_declaration(words, state):
     """The same of Rust and Rattle, where a slice is a pointer and a length. `state` is what State is called in C."""
     name, type_ = words.removeprefix("pub ").removeprefix("pub(crate) ").split(": ", 1)
     type_ = re.sub(r"<'\w+>|'\w+ ", "", type_).replace("LABEL_BYTES", "16")
@@ -87,33 +87,33 @@ def of_rust(words, state):
     return [(SAME.get(name, name), type_)]
 
 
-def list_parts(text):
+def split_at_commas(text):
     return [" ".join(part.split()) for part in text.split(",") if part.strip() not in ("", "void")]
 
 
-def prototypes():
+def header_prototypes():
     """The functions of the header, by name: result and parameters in C, and whether an empty line is above."""
     found = re.findall(r"(^\n)?^(\w+) (vulfsjor_ffi_\w+)\(([^)]*)\);", without_comments(read(HEADER)), re.MULTILINE)
-    return {name: (result, list_parts(given), bool(empty)) for empty, result, name, given in found}
+    return {name: (result, split_at_commas(given), bool(empty)) for empty, result, name, given in found}
 
 
-def signature(head, state):
+def parse_signature(head, state):
     """The name of a function of Rust or Rattle, and its signature."""
     name, given, result = re.search(r"fn (\w+)\((.*?)\)(?: -> (\w+))?", head).groups("")
-    return name, ([each for one in list_parts(given) for each in of_rust(one, state)], result)
+    return name, ([each for one in split_at_commas(given) for each in parse_rust_declaration(one, state)], result)
 
 
-def rattle_exports():
-    for module in modules("crates/blake2_ffi/src/lib.rt"):
-        state = state_of("::".join(module.path))
+def rattle_export_signatures():
+    for module in modules_of_crate("crates/blake2_ffi/src/lib.rt"):
+        state = c_name_of_state("::".join(module.path))
         for item in module.items:
             if item.is_export:
-                yield signature(" ".join(" ".join(item.head).split()), state)
+                yield parse_signature(" ".join(" ".join(item.head).split()), state)
 
 
-def in_rust(words):
+def as_rust_parameter(words):
     """A parameter of C as library.rs has it: structs are references, except in arrays of them."""
-    name, type_ = of_c(words)
+    name, type_ = parse_c_declaration(words)
     star, _, struct = type_.rpartition(" ")
     if struct in IN_RUST:
         is_array = name in ("messages", "inputs", "states")
@@ -124,11 +124,11 @@ def in_rust(words):
 
 def rust_signatures():
     """rust/src/library.rs, in which each function that it names has the signature of the header."""
-    wanted = prototypes()
+    wanted = header_prototypes()
 
     def signature_of(match):
         result, given, _ = wanted.get("vulfsjor_ffi_" + match[1]) or sys.exit(f"{LIBRARY}: {HEADER} has no {match[1]}")
-        words, end = [in_rust(one) for one in given], f" -> {NUMBERS[result]};" if NUMBERS[result] else ";"
+        words, end = [as_rust_parameter(one) for one in given], f" -> {NUMBERS[result]};" if NUMBERS[result] else ";"
         line = f"    fn {match[1]}({', '.join(words)}){end}"
         if len(line) <= 96:
             return line
@@ -137,37 +137,39 @@ def rust_signatures():
     return re.sub(r"(?m)^    fn (\w+)\([^)]*\)[^;]*;$", signature_of, read(LIBRARY))
 
 
-def fields_of(text, name):
+def c_layout_fields(text, name):
     """The fields of a struct of Rust or Rattle, if there is one of this name with C's layout."""
     head = rf"^#\[repr\(C\)\]\n(?:#\[[^\n]*\]\n)*pub(?:\(crate\))? struct {name}(?:<'a>)? "
     body = re.search(head + r"\{(.*?)^\}", without_comments(text), re.MULTILINE | re.DOTALL)
-    return body and list_parts(re.sub(r"#\[.*\]", "", body[1]))
+    return body and split_at_commas(re.sub(r"#\[.*\]", "", body[1]))
 
 
 def differences_from_header():
     """What differs from the header, as sentences."""
     # The signatures as in Rust: parameters and result.
-    wanted = {name: ([of_c(one) for one in given], NUMBERS[result])
-              for name, (result, given, _) in prototypes().items()}
-    found = dict(rattle_exports())
+    wanted = {name: ([parse_c_declaration(one) for one in given], NUMBERS[result])
+              for name, (result, given, _) in header_prototypes().items()}
+    found = dict(rattle_export_signatures())
     yield from (f"{HEADER}: {name} has narrow arguments on the stack, which {CALLS} cannot pass on"
-                for name, (given, _) in wanted.items() if is_packed(given))
+                for name, (given, _) in wanted.items() if differs_in_apple_convention(given))
     yield from (f"crates/blake2_ffi: {name} is not as in {HEADER}" for name in sorted({*wanted, *found})
                 if found.get(name) != wanted.get(name))
     header = without_comments(read(HEADER))
     for name, (file, rattle, rust) in STRUCTS.items():
         body = re.search(rf"typedef struct vulfsjor_{name} \{{(.*?)\}}", header, re.DOTALL)[1]
-        fields_of_c = [of_c(" ".join(one.split()).replace("void", "uint8_t")) for one in body.split(";") if one.strip()]
+        fields_of_c = [parse_c_declaration(" ".join(one.split()).replace("void", "uint8_t")) for one in body.split(";")
+                       if one.strip()]
         for place, type_ in ((file, rattle), (LIBRARY, rust)):
             if type_:
-                given = [each for one in fields_of(read(place), type_) or () for each in of_rust(one, state_of(name))]
+                given = [each for one in c_layout_fields(read(place), type_) or ()
+                         for each in parse_rust_declaration(one, c_name_of_state(name))]
                 if re.search("_(state|lanes|reader)$", name):  # whose layout in C is that of 64 bits on every platform
                     given = [(field, "u64" if each == "usize" else each) for field, each in given]
                 if given != fields_of_c:
                     yield f"{place}: {type_} is not as vulfsjor_{name} of {HEADER}"
 
 
-def is_packed(given):
+def differs_in_apple_convention(given):
     """Whether Apple's convention on ARM, which packs arguments on the stack, has one of these elsewhere than Arm's."""
     end = 0
     for place, (_, type_) in enumerate(given[8:]):
@@ -178,22 +180,23 @@ def is_packed(given):
     return False
 
 
-def lines_in_blocks(line_of):
+def lines_for_functions(line_of):
     """The lines for all functions, with the header's empty lines between them."""
-    lines = ["\n" * empty + line_of(name, result, given) for name, (result, given, empty) in prototypes().items()]
+    lines = ["\n" * empty + line_of(name, result, given) for name,
+             (result, given, empty) in header_prototypes().items()]
     return "\n".join(lines).lstrip() + "\n"
 
 
-def in_calls(name, result, given):
+def thunk_lines(name, result, given):
     """The lines of thunks.h, of at most 100 columns, which no declaration is cut by."""
-    names = ", ".join(of_c(one)[0] for one in given)
+    names = ", ".join(parse_c_declaration(one)[0] for one in given)
     kind, type_ = ("CALL_VOID", "") if result == "void" else ("CALL", f" {result},")
     words = ", ".join(one.replace(" ", "~") for one in given) or "void"
     lines = textwrap.wrap(f"{kind}({name},{type_} ({words}), ({names}))", 100, subsequent_indent="     ")
     return "\n".join(lines).replace("~", " ")
 
 
-def layout_lines():
+def struct_layout_lines():
     """The structs of the header: a line of c/abi.txt for each."""
     header = without_comments(read(HEADER))
     sizes = dict(re.findall(r"sizeof\((\w+)\) == (\d+)(?! \*)\b", header))
@@ -205,23 +208,23 @@ def layout_lines():
 def interface_lines():
     """The lines of c/abi.txt for functions and structs, in the order of the versions that added them."""
     of_functions = [(f"{result} {name}", ", ".join(re.sub(r" ?\w+$", "", one) for one in given) or "void")
-                    for name, (result, given, _) in prototypes().items()]
+                    for name, (result, given, _) in header_prototypes().items()]
     words = [*IN_C, *(f"{head}({given})" for head, given in of_functions),
-             *(f"struct {head}: {fields_}" for head, fields_ in layout_lines())]
+             *(f"struct {head}: {fields_}" for head, fields_ in struct_layout_lines())]
     added = {line.partition(" ")[2]: line.partition(" ")[0] for line in read(ABI).split("\n")}
     here = f"VULFSJOR_{version().rpartition('.')[0]}"
     return sorted((f"{added.get(one, here)} {one}" for one in words),
                   key=lambda line: [int(each) for each in re.findall(r"\d+", line.split()[0])])
 
 
-def removed_from_interface():
+def interface_removals():
     """What is not in the interface any more, of earlier versions than this one."""
     lines, here = interface_lines(), f"VULFSJOR_{version().rpartition('.')[0]} "
     return [line for line in read(ABI).split("\n") if line.startswith("VULFSJOR_") and not line.startswith(here)
             and line not in lines]
 
 
-def version_script():
+def linker_version_script():
     """The script of versions for the linker, one node for each version that added functions."""
     found: dict = {}
     for line in interface_lines():
@@ -235,15 +238,15 @@ def version_script():
     return text
 
 
-def generated_lists():
+def files_with_generated_lists():
     """The files with a list, as they should be: it reaches from the first function to the last."""
-    lines = lines_in_blocks(lambda name, *_: f'CALL("{name}")')
+    lines = lines_for_functions(lambda name, *_: f'CALL("{name}")')
     yield CHOOSE, re.sub(r'^CALL\("[^.]*"\)\n(?=#endif)', lambda _: lines, read(CHOOSE), flags=re.MULTILINE)
-    yield CALLS, re.sub(r"^CALL(_VOID)?\(vulfsjor.*\Z", lambda _: lines_in_blocks(in_calls), read(CALLS),
+    yield CALLS, re.sub(r"^CALL(_VOID)?\(vulfsjor.*\Z", lambda _: lines_for_functions(thunk_lines), read(CALLS),
                         flags=re.MULTILINE | re.DOTALL)
     head = re.match(r"(?:#.*\n|\n)*", read(ABI))[0]
     yield ABI, head + "\n".join(interface_lines()) + "\n"
-    yield MAP, version_script()
+    yield MAP, linker_version_script()
     yield LIBRARY, rust_signatures()
 
 
@@ -251,10 +254,10 @@ def main():
     if sys.argv[1:] not in ([], ["--check"]):
         sys.exit("usage: tools/exports.py [--check]")
     wrong = [*differences_from_header(), *(f"{ABI}: the soname has to change, since this did: {line}"
-                                           for line in removed_from_interface())]
+                                           for line in interface_removals())]
     if wrong and not sys.argv[1:]:
         sys.exit("\n".join(wrong))
-    for path, text in generated_lists():
+    for path, text in files_with_generated_lists():
         if sys.argv[1:]:
             wrong += [f"{path} is not as {HEADER}: run tools/exports.py"] * (text != read(path))
         else:

@@ -21,35 +21,35 @@ uninstall=no built=$1
 shift
 
 # The files of a program, by the names under which they are installed: NAME
-places_of() {
+installed_names_of_program() {
     printf '%s\n' "$root$bindir/$prefix$1" "$root$mandir/man1/$prefix$1.1" "$root$bashcompdir/$prefix$1" \
         "$root$zshcompdir/_$prefix$1" "$root$fishcompdir/$prefix$1.fish"
 }
 
 # Whether there is nothing in this place, or a file of ours.
-is_ours() { { [ ! -e "$1" ] && [ ! -L "$1" ]; } || grep -qs Vulfsjor "$1"; }
+is_absent_or_ours() { { [ ! -e "$1" ] && [ ! -L "$1" ]; } || grep -qs Vulfsjor "$1"; }
 
 # The text of a file, for the program's name with the prefix: FILE NAME. In a man page that are the title, the first
 # words of lines, and the words in bold; in completions of the three shells, what they are for.
-renamed() {
+text_with_program_prefix() {
     sed "s/^\.TH /&$(printf '%s' "$prefix" | tr '[:lower:]' '[:upper:]')/;s/^$2 /$prefix&/
         s/\\\\fB$2\\([ \\\\]\\)/\\\\fB$prefix$2\\1/g
         s/^\\(complete .* \\)$2\$/\\1$prefix$2/;s/^complete -c /&$prefix/;1s/^#compdef /&$prefix/" "$1"
 }
 
 # What is in the place of a file: leaves a file of somebody else, and removes ours or refuses those: NAME
-make_room() {
+remove_or_keep_old_file() {
     local place page=$root$mandir/man1/$prefix$1.1
     while IFS= read -r place; do
-        if is_ours "$place" || { [ "$place" = "$root$bindir/$prefix$1" ] && grep -qs Vulfsjor "$page"; }; then
+        if is_absent_or_ours "$place" || { [ "$place" = "$root$bindir/$prefix$1" ] && grep -qs Vulfsjor "$page"; }; then
             [ "$uninstall" = no ] || rm -f -- "$place"
         elif [ "$uninstall" = no ]; then
             stop "$place is not ours: set PROGRAM_PREFIX to install by another name, such as vulfsjor-, or PROGRAMS"
         fi
-    done < <(places_of "$1")
+    done < <(installed_names_of_program "$1")
 }
 
-for name; do make_room "$name"; done
+for name; do remove_or_keep_old_file "$name"; done
 rm -f -- "$root$mandir"/man3/vulfsjor{,_*}.3
 [ "$uninstall" = no ] || exit 0
 umask 022
@@ -62,8 +62,8 @@ for page in "$top"/c/man/*.3; do
 done
 for name; do
     write "$root$bindir/$prefix$name" 755 <"$built/$name"
-    write "$root$mandir/man1/$prefix$name.1" < <(renamed "$top/docs/$name.1" "$name")
-    write "$root$bashcompdir/$prefix$name" < <(renamed "$top/completions/$name.bash" "$name")
-    write "$root$zshcompdir/_$prefix$name" < <(renamed "$top/completions/_$name" "$name")
-    write "$root$fishcompdir/$prefix$name.fish" < <(renamed "$top/completions/$name.fish" "$name")
+    write "$root$mandir/man1/$prefix$name.1" < <(text_with_program_prefix "$top/docs/$name.1" "$name")
+    write "$root$bashcompdir/$prefix$name" < <(text_with_program_prefix "$top/completions/$name.bash" "$name")
+    write "$root$zshcompdir/_$prefix$name" < <(text_with_program_prefix "$top/completions/_$name" "$name")
+    write "$root$fishcompdir/$prefix$name.fish" < <(text_with_program_prefix "$top/completions/$name.fish" "$name")
 done

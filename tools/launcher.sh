@@ -47,13 +47,13 @@ write_record() {
 
 # The name of the main in a file of dist/, and that of a function that it calls or exports: FILE
 # call|export FUNCTION.
-main_of() { sed -n $'s/^\tvj_export\t\\(main_.*\\)/\\1/p' "$1"; }
-name_in() { sed -n $'/^\tvj_'"$2"$'\t.*\\.'"$3"$'[._]/{s/.*\t//p;q;}' "$1"; }
+main_symbol_of() { sed -n $'s/^\tvj_export\t\\(main_.*\\)/\\1/p' "$1"; }
+symbol_of_function_in() { sed -n $'/^\tvj_'"$2"$'\t.*\\.'"$3"$'[._]/{s/.*\t//p;q;}' "$1"; }
 
 # Adds to `words` what the compiler gets for the program of this file.
-add_words() {
+add_compiler_words() {
     local text build
-    words+=("-DMAIN=$(main_of "$1")" "-I$top/c/include" "$top"/c/{b2,build,choose}.c -DVULFSJOR_BUILD)
+    words+=("-DMAIN=$(main_symbol_of "$1")" "-I$top/c/include" "$top"/c/{b2,build,choose}.c -DVULFSJOR_BUILD)
     for text in "${1%/*}"/vulfsjor*.s; do
         text=${text#"$top/dist/"} build=${text#*/vulfsjor} build=${build%.s} build=${build#-}
         words+=("-DBUILD${build:+_$build}=\"$(sed -n "\,  $text\$,p" "$top/dist/MANIFEST")\"")
@@ -61,10 +61,10 @@ add_words() {
     if [ "$name" = b2 ]; then
         words+=('-DCHOOSE_FUNCTIONS=<stddef.h>')
     else
-        words+=("-DABSORB_TREE=$(name_in "$1" call absorb_tree)"
-            "-DPROVED_TREE=$(name_in "$1" export absorb_tree)"
-            "-DHIDE_MEMORY=$(name_in "$1" call hide_memory)"
-            "-DSHOW_PROGRESS=$(name_in "$1" call show_progress)"
+        words+=("-DABSORB_TREE=$(symbol_of_function_in "$1" call absorb_tree)"
+            "-DPROVED_TREE=$(symbol_of_function_in "$1" export absorb_tree)"
+            "-DHIDE_MEMORY=$(symbol_of_function_in "$1" call hide_memory)"
+            "-DSHOW_PROGRESS=$(symbol_of_function_in "$1" call show_progress)"
             -DEND=b2sum_end -DFREE=b2sum_free -DREALLOC=b2sum_realloc
             "$top"/c/{b2sum,threads}.c)
         [ $format = coff ] || words+=(-pthread)
@@ -75,7 +75,7 @@ add_words() {
 # this one if it is named: FILE [MACHINE]. Then its record is written too, which is that of the
 # beginning, as the program's time is. CFLAGS, CPPFLAGS and LDFLAGS are used as by make. For ELF it
 # is marked for branch protection.
-build() {
+build_program() {
     local cc target texts format words flags branches record=${1%/*}/.${1##*/}
     read -ra cc <<<"${CC:-cc}"
     command -v "${cc[0]-}" >/dev/null ||
@@ -104,7 +104,7 @@ build() {
     # With -g this name is written, and not that of the temporary file.
     (cd "$top" && echo "# 1 \"$name.s\"" && cat "${texts[0]%/*}/$format.inc" &&
         printf '\tvj_marks\n' && cat "${texts[@]}") >"$begun.s"
-    add_words "$top/${texts[0]}"
+    add_compiler_words "$top/${texts[0]}"
     read -ra flags <<<"${CPPFLAGS-} ${CFLAGS-} ${LDFLAGS-}"
     "${cc[@]}" -O2 ${flags[@]+"${flags[@]}"} -fno-lto -ffunction-sections "${words[@]}" \
         -o "$begun.new" "$begun.s"
@@ -136,14 +136,14 @@ find_program() {
     if ! mkdir -p -- "${program%/*}" 2>/dev/null || ! is_writable "${program%/*}"; then
         fail "$top/out cannot be written: set XDG_CACHE_HOME to a folder for the program"
     fi
-    build "$program" "$machine-"
+    build_program "$program" "$machine-"
 }
 
 # Runs the program with these arguments, by the name of the script, which its messages begin with. `--build FILE` builds
 # it as FILE instead.
 run_program() {
     if [ "${1-},$#" = --build,2 ]; then
-        build "$2"
+        build_program "$2"
     else
         find_program
         exec -a "$0" "$program" "$@"

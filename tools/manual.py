@@ -37,32 +37,32 @@ FUNCTION = re.compile(COMMENT + r"((?:[A-Z_]+(?:\([0-9, ]*\))?\s+)*(?:static inl
                       r"[a-z][\w ]*?[ *]vulfsjor_(?!ffi_)(\w+)\([^;{}]*\))(?: \{|;)", re.S)
 
 
-def escaped(text):
+def escaped_for_man(text):
     """The text, escaped for a line of a man page."""
     return re.sub(r"^([.'])", r"\\&\1", text.replace("\\", "\\e").replace("-", "\\-"), flags=re.MULTILINE)
 
 
-def inline(text):
+def format_inline(text):
     """A paragraph with its code and bold words in bold, and its links as their words. One in parentheses is left out,
     since it is to a page that is not installed, or to another section."""
     text = re.sub(r" ?\(\[[^]]*\]\([^)]*\)\)", "", " ".join(text.split()))
-    text = escaped(re.sub(r"\[([^]]*)\]\([^)]*\)", r"\1", text))
+    text = escaped_for_man(re.sub(r"\[([^]]*)\]\([^)]*\)", r"\1", text))
     return re.sub(r"\*\*(.+?)\*\*|`(.+?)`", lambda match: f"\\fB{match[1] or match[2]}\\fR", text)
 
 
-def block(part):
+def format_block(part):
     lines = part.splitlines()
     if part.startswith("    "):
-        return "\n".join([".PP", ".EX", *(escaped(line[4:].replace("./b2", "b2")) for line in lines), ".EE"])
+        return "\n".join([".PP", ".EX", *(escaped_for_man(line[4:].replace("./b2", "b2")) for line in lines), ".EE"])
     if part.startswith("### "):
-        return ".SS " + inline(part[4:])
+        return ".SS " + format_inline(part[4:])
     if not part.startswith("|"):
-        return ".PP\n" + inline(part.replace("./b2", "b2"))
+        return ".PP\n" + format_inline(part.replace("./b2", "b2"))
     rows = [[cell.strip() for cell in line.strip("|").split(" | ")] for line in lines[2:]]
     if not all(len(row) in (2, 3) for row in rows):
         raise Unreadable(f"docs/B2.md: a row of the table {lines[0]!r} does not have two or three cells")
     last = [row if len(row) == 2 else [f"{row[1]} (status {row[0].strip()})", row[2]] for row in rows]
-    return "\n".join(f".TP\n{inline(head)}\n{inline(text)}" for head, text in last)
+    return "\n".join(f".TP\n{format_inline(head)}\n{format_inline(text)}" for head, text in last)
 
 
 def manual(name):
@@ -73,51 +73,51 @@ def manual(name):
     for section in re.split(r"^## ", read(page), flags=re.MULTILINE)[1:]:
         title, text = section.split("\n", 1)
         if title not in LEFT_OUT:
-            made.append("\n".join([f".SH {title.upper()}", *map(block, re.split(r"\n\n+", text.strip("\n")))]))
+            made.append("\n".join([f".SH {title.upper()}", *map(format_block, re.split(r"\n\n+", text.strip("\n")))]))
     others = "".join(f".BR {other} (1),\n" for other in others.split())
     return re.sub(r"(\.S[HS] .*)\n\.PP", r"\1", "\n".join(made)) + f"\n.SH SEE ALSO\n{others}RFC 7693\n"
 
 
 # ---- of the library
 
-def lines_of(comment):
+def comment_lines(comment):
     return [re.sub(r"^ ?\* ?", "", line) for line in comment.strip().replace("this file", "vulfsjor.h").split("\n")]
 
 
-def functions():
+def header_functions():
     """The functions of the headers: for each the name without vulfsjor_, the prototype, and the comment's lines."""
     for header in HEADERS:
         for comment, head, name in FUNCTION.findall(read(header)):
             if not comment.startswith(" Internal:"):
                 prototype = re.sub(r"^(?:[A-Z_]+(?:\([0-9, ]*\))?\s+|static inline )*", "", head)
-                yield name, " ".join(prototype.split()).replace("( ", "("), lines_of(comment)
+                yield name, " ".join(prototype.split()).replace("( ", "("), comment_lines(comment)
 
 
-def paragraphs(lines):
+def man_paragraphs(lines):
     """Paragraphs of a comment as those of a man page: text, items of lists, and code."""
     for part in re.split(r"\n\n+", "\n".join(lines)):
         if re.match(r" +(?!- )\S", part):
-            yield "\n".join([".PP", ".EX", escaped(textwrap.dedent(part)), ".EE"])
+            yield "\n".join([".PP", ".EX", escaped_for_man(textwrap.dedent(part)), ".EE"])
             continue
         text, *items = re.split(r"\n *- ", "\n" + part)
-        yield from (".PP\n" + escaped(it) for it in [" ".join(text.split())] if it)
+        yield from (".PP\n" + escaped_for_man(it) for it in [" ".join(text.split())] if it)
         for item in items:
             # What follows the items is less indented than they are.
             own, *rest = re.split(r"\n(?=\S)", item, maxsplit=1)
-            yield ".IP \\(bu 2\n" + escaped(" ".join(own.split()))
-            yield from (".PP\n" + escaped(" ".join(it.split())) for it in rest)
+            yield ".IP \\(bu 2\n" + escaped_for_man(" ".join(own.split()))
+            yield from (".PP\n" + escaped_for_man(" ".join(it.split())) for it in rest)
 
 
-def declared(prototype):
+def prototype_lines(prototype):
     """The lines of a prototype, which end with an argument."""
     yield ".PP"
     for line in textwrap.wrap(re.sub("(?<!,) ", "\0", f"{prototype};"), 76, subsequent_indent="    "):
-        yield f'.B "{escaped(line)}"'.replace("\0", " ")
+        yield f'.B "{escaped_for_man(line)}"'.replace("\0", " ")
 
 
-def introduction(header):
+def introduction_of_header(header):
     """The paragraphs of the first comment of a header."""
-    return paragraphs(lines_of(re.match(COMMENT, read(header), re.S)[1]))
+    return man_paragraphs(comment_lines(re.match(COMMENT, read(header), re.S)[1]))
 
 
 def page(name, found):
@@ -127,20 +127,20 @@ def page(name, found):
             f'.TH {name.upper()} 3 {DATE} "Vulfsjor {version()}"', ".ad l", ".nh", ".SH NAME",
             f"{', '.join(names)} \\- {PAGES[name][1]}", ".SH SYNOPSIS", ".nf",
             *(f".B #include <{header}>" for header in headers),
-            *(line for _, prototype, _ in found for line in declared(prototype)), ".fi", ".SH DESCRIPTION"]
-    made += introduction(HEADERS[0]) if name == "vulfsjor" else [
+            *(line for _, prototype, _ in found for line in prototype_lines(prototype)), ".fi", ".SH DESCRIPTION"]
+    made += introduction_of_header(HEADERS[0]) if name == "vulfsjor" else [
         ".PP\nSee\n.BR vulfsjor (3)\nfor null pointers, states, errors and secrets."]
     for each, _, lines in found:
-        made += [f".SS vulfsjor_{each}()", *paragraphs(lines)]
+        made += [f".SS vulfsjor_{each}()", *man_paragraphs(lines)]
     if len(headers) > 1:
-        made += [f".SS {headers[1]}", *introduction(HEADERS[1])]
+        made += [f".SS {headers[1]}", *introduction_of_header(HEADERS[1])]
     others = ",\n".join(f".BR {other} (3)" for other in PAGES if other != name)
     return re.sub(r"(\n\.S[HS] .*)\n\.PP(?=\n)", r"\1", "\n".join(made)) + f"\n.SH SEE ALSO\n{others}\n"
 
 
-def library_pages():
+def library_man_pages():
     """The man pages of the library by their files."""
-    left = list(functions())
+    left = list(header_functions())
     texts = {}
     for name, (form, _) in PAGES.items():
         found = [each for each in left if re.fullmatch(form, each[0])]
@@ -153,7 +153,7 @@ def library_pages():
 
 # ---- all
 
-def warnings(path):
+def man_page_warnings(path):
     """What mandoc or man says of a man page; nothing if neither is here."""
     for command in (["mandoc", "-T", "lint", "-W", "warning", path], ["man", "--warnings", "-l", path]):
         if shutil.which(command[0]):
@@ -163,22 +163,22 @@ def warnings(path):
     return ""
 
 
-def check(path, text):
+def man_page_errors(path, text):
     """What is wrong with a man page, whose text has to be this."""
     is_current = os.path.exists(f"{TOP}/{path}") and read(path) == text
-    return ("" if is_current else f"{path}: run tools/manual.py\n") + warnings(f"{TOP}/{path}")
+    return ("" if is_current else f"{path}: run tools/manual.py\n") + man_page_warnings(f"{TOP}/{path}")
 
 
 def main():
     if sys.argv[1:] not in ([], ["--check"]):
         sys.exit("usage: tools/manual.py [--check]")
-    pages = {**{f"docs/{name}.1": manual(name) for name in PROGRAMS}, **library_pages()}
+    pages = {**{f"docs/{name}.1": manual(name) for name in PROGRAMS}, **library_man_pages()}
     if not sys.argv[1:]:
         for path, text in pages.items():
             with open(f"{TOP}/{path}", "w", encoding="utf-8") as file:
                 file.write(text)
         return 0
-    said = "".join(check(*page) for page in pages.items())
+    said = "".join(man_page_errors(*page) for page in pages.items())
     print(said or "the man pages are what tools/manual.py makes of their sources\n", end="")
     return 1 if said else 0
 

@@ -38,23 +38,23 @@ PREPROCESSED = re.compile(r"^\s*#|//|/\*|\b(?:linux|unix|i386)\b")
 BUILDS = {"_x86": ("_v2", "_v3", "_v4"), "_a64": ("_arm",)}
 
 
-def refuse(line):
+def refuse_unknown_line(line):
     sys.exit(f"object_formats.py: what is {line.strip()}?")
 
 
-def place_of(line):
+def local_label_of_line(line):
     """The name of a local label, if the line is one."""
     return line[:-1] if re.fullmatch(r"\.L[\w.]+:", line) else None
 
 
-class Text:
+class AssemblyText:
     """A text whose functions have macros as heads and ends."""
 
     def __init__(self, text, shared):
         self.alignment = "2" if "\n\tret\n" in text else "4"
         self.ending = re.search(r"(?m)^\t\.globl\t\w+?(_\d+_[a-z0-9]+)$", text)[1]
         self.shared, self.called = {name + self.ending for name in shared}, set()
-        text = END.sub(r"\tvj_end\t\2\n", HEAD.sub(self.head, text))
+        text = END.sub(r"\tvj_end\t\2\n", HEAD.sub(self.function_head, text))
         self.defined = set(re.findall(rf"(?m)^\tvj_(?:function|cold)\t({NAME})$", text))
         self.exported = set(re.findall(rf"(?m)^\tvj_(?:export|shared)\t({NAME})$", text))
         if any(re.match("[lL]", name) for name in self.defined):
@@ -65,35 +65,36 @@ class Text:
                 self.pieces.append([])
             self.pieces[-1].append(line)
         for piece in self.pieces:
-            self.constants.update(filter(None, map(place_of, piece[self.end_of(piece):])))
+            self.constants.update(filter(None, map(local_label_of_line, piece[self.end_of_function(piece):])))
 
-    def head(self, found):
+    def function_head(self, found):
         """The head of a function. An exported one is in no section of its own for what is seldom called."""
         cold, name, exported, alignment = found.groups()
         if alignment != self.alignment or (cold and exported):
-            refuse(found[0])
+            refuse_unknown_line(found[0])
         kind = "shared" if name in self.shared else "export"
         return f"\tvj_{kind if exported else 'cold' if cold else 'function'}\t{name}\n"
 
     @staticmethod
-    def end_of(piece):
+    def end_of_function(piece):
         """Where the function ends that a piece begins with."""
         return next((at for at, line in enumerate(piece) if line.startswith("\tvj_end\t")), 0)
 
-    def piece(self, piece):
+    def function_piece(self, piece):
         """A function and what follows it up to the next one, such as its tables of jumps."""
-        used = {name for line in piece if not place_of(line) for name in LOCAL.findall(line)}
-        places = {name: at for at, line in enumerate(piece[:self.end_of(piece)]) if (name := place_of(line))}
+        used = {name for line in piece if not local_label_of_line(line) for name in LOCAL.findall(line)}
+        places = {name: at for at,
+                  line in enumerate(piece[:self.end_of_function(piece)]) if (name := local_label_of_line(line))}
         numbers = {name: str(count) for count, name in enumerate((it for it in places if it in used), 1)}
 
-        def reference(found, at):
+        def numbered_reference(found, at):
             name = found[0]
             if name in numbers:
                 return numbers[name] + ("f" if places[name] > at else "b")
-            return name if name in self.constants else refuse(piece[at])
+            return name if name in self.constants else refuse_unknown_line(piece[at])
 
         for at, line in enumerate(piece):
-            name = place_of(line)
+            name = local_label_of_line(line)
             if name in places:
                 if name in numbers:
                     yield f"{numbers[name]}:"
@@ -101,8 +102,8 @@ class Text:
                 yield line
             elif not DROPPED.fullmatch(line):
                 if PREPROCESSED.search(line) and piece is not self.pieces[0]:
-                    refuse(line)
-                yield LOCAL.sub(lambda it: reference(it, at), self.line(line))
+                    refuse_unknown_line(line)
+                yield LOCAL.sub(lambda it: numbered_reference(it, at), self.line(line))
 
     def line(self, line):
         """A line in which the labels are still those for ELF."""
@@ -112,13 +113,13 @@ class Text:
         word, rest = directive.groups()
         if word == ".section":
             return self.section(line)
-        return f"\t{NUMBERS.get(word, word)}\t{rest}" if word in KEPT else refuse(line)
+        return f"\t{NUMBERS.get(word, word)}\t{rest}" if word in KEPT else refuse_unknown_line(line)
 
     def section(self, line):
         """Where constants are: merged ones by their size, and those that the linker fills in."""
-        kind, name, size = (DATA.fullmatch(line) or refuse(line)).groups()
+        kind, name, size = (DATA.fullmatch(line) or refuse_unknown_line(line)).groups()
         if size:
-            return f"\tvj_constants\t{size}" if name == f"cst{size}" else refuse(line)
+            return f"\tvj_constants\t{size}" if name == f"cst{size}" else refuse_unknown_line(line)
         name = name.removeprefix(".L").removesuffix(self.ending) + self.ending
         return f"\tvj_{'data' if kind == 'rodata' else 'relocated'}\t{name}"
 
@@ -139,7 +140,7 @@ class Text:
         line = re.sub(rf"^\tldr\t(\w+), \[(\w+), :lo12:(\.?{NAME})\]$", r"\tvj_load\t\1, \2, \3", line)
         line = re.sub(rf"^\tadd\t(\w+), (\w+), :lo12:(\.?{NAME})$", r"\tvj_address\t\1, \2, \3", line)
         of_elf = re.search(r"@|:lo12:|:got|\tadrp\t", line) or not re.match(r"\t[a-z]", line)
-        return refuse(line) if of_elf or self.exported & set(re.findall(NAME, line)) else line
+        return refuse_unknown_line(line) if of_elf or self.exported & set(re.findall(NAME, line)) else line
 
     @staticmethod
     def names_in_library(name):
@@ -147,20 +148,21 @@ class Text:
         end = "_" + name.rpartition("_")[2]
         return [name.removesuffix(end) + build for build in BUILDS.get(end, (end,))]
 
-    def chosen(self):
+    def build_choosing_functions(self):
         """The functions that jump to those of the library's build."""
         for name in sorted(self.called):
             names = self.names_in_library(name)
             if len(names) > 1:
                 yield f"\tvj_choose\t{', '.join((name, *names))}"
 
-    def written(self):
-        lines = [line for piece in self.pieces for line in self.piece(piece)] + [*self.chosen()]
+    def translated_text(self):
+        lines = [line for piece in self.pieces
+                 for line in self.function_piece(piece)] + [*self.build_choosing_functions()]
         return [it for line in lines for it in ([line, ""] if line.startswith("\tvj_end\t") else [line])]
 
 
 def main():
-    sys.stdout.write("\n".join(Text(sys.stdin.read(), sys.argv[1:]).written()) + "\n")
+    sys.stdout.write("\n".join(AssemblyText(sys.stdin.read(), sys.argv[1:]).translated_text()) + "\n")
 
 
 main()

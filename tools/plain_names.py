@@ -18,16 +18,16 @@ IS_DATA = re.compile(r"\t\.(?:ascii|asciz|ident|file)\t")
 EXPORT = "\t.globl\t"
 
 
-def plain(name):
+def assembler_name(name):
     """The name with .. for :: and a dot for each other run of what no assembler takes in a name."""
     return re.sub(r"\W+", lambda run: ".." if run[0].startswith("::") else ".", name).rstrip(".")
 
 
-def labels(lines):
+def label_lines(lines):
     return [line for line in lines if re.match(r'["\w.][^\t]*:$', line)]
 
 
-def check_theirs(lines, names):
+def refuse_unexpected_functions(lines, names):
     """Refuses a text that has one of these functions itself, or has not exactly one proved one, exported, and a
     call."""
     for name in names:
@@ -38,15 +38,15 @@ def check_theirs(lines, names):
             sys.exit(f"plain_names.py: C cannot have the function {name}")
 
 
-def with_ours(lines, ours):
+def redirect_calls(lines, ours):
     """The lines, with calls of these functions elsewhere instead of others."""
     calls, found = re.compile(rf"(?<![\w.:])(?:{'|'.join(ours)})(?![\w.:])"), set()
 
-    def our(name):
+    def replacement_name(name):
         found.add(name[0])
         return ours[name[0]]
 
-    renamed = [line if not ours or IS_DATA.match(line) else calls.sub(our, line) for line in lines]
+    renamed = [line if not ours or IS_DATA.match(line) else calls.sub(replacement_name, line) for line in lines]
     for name in ours.keys() - found:
         sys.exit(f"plain_names.py: {name} is never called")
     return renamed
@@ -54,14 +54,15 @@ def with_ours(lines, ours):
 
 def main():
     end, ours = sys.argv[1], dict(word.split("=") for word in sys.argv[2:] if "=" in word)
-    lines = with_ours(sys.stdin.read().split("\n"), ours)
-    check_theirs(lines, [word for word in sys.argv[2:] if "=" not in word])
+    lines = redirect_calls(sys.stdin.read().split("\n"), ours)
+    refuse_unexpected_functions(lines, [word for word in sys.argv[2:] if "=" not in word])
     exported = "|".join(re.escape(line[len(EXPORT):]) for line in lines if line.startswith(EXPORT))
     names = re.compile(rf'"([^"]*::[^"]*)"|\b(?:{exported})\b')
     renamed = [line if IS_DATA.match(line) else
-               names.sub(lambda it: plain(it[1] or it[0]) + end, re.sub(r"(?<![\w.])\.L", f".L{end[1:]}_", line))
+               names.sub(lambda it: assembler_name(it[1] or it[0]) + end,
+                         re.sub(r"(?<![\w.])\.L", f".L{end[1:]}_", line))
                for line in lines]
-    if len(set(labels(renamed))) != len(labels(lines)):
+    if len(set(label_lines(renamed))) != len(label_lines(lines)):
         sys.exit("plain_names.py: two names would be one")
     hidden = [line.replace(EXPORT, "\t.hidden\t") if line.startswith(EXPORT) else None for line in renamed]
     sys.stdout.write("\n".join(it for pair in zip(renamed, hidden) for it in pair if it is not None))

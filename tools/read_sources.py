@@ -32,13 +32,13 @@ def version():
     return match[1]
 
 
-def anchor(title):
+def heading_anchor(title):
     """The anchor of a heading, as a browser of the repository makes it."""
     return re.sub(r"[^\w -]", "", title.lower()).replace(" ", "-")
 
 
 @dataclass
-class Item:
+class SourceItem:
     """An item of a .rt file: the lines above it, its own, and the number of its first."""
     above: list
     lines: list
@@ -58,11 +58,11 @@ class Item:
         self.head = re.sub(r"\s*(?:\{\}?|;)$", "", "\n".join(self.lines[:end])).split("\n")
         self.body, self.body_number = [line[4:] for line in self.lines[end:-1]], self.number + end
 
-    def members(self):
+    def items_in_body(self):
         """The items in the body of a trait or an impl."""
-        return list(items(self.body, self.body_number))
+        return list(parse_items(self.body, self.body_number))
 
-    def shown(self):
+    def lines_without_bodies(self):
         """The lines to show, without the bodies of functions; of a trait without its functions."""
         if self.kind == "fn":
             return self.head
@@ -70,17 +70,17 @@ class Item:
             kept = [line for line in self.above if line.startswith(("#[derive", "#[repr"))]
             return kept + self.lines
         inner = []
-        for member in self.members():
+        for member in self.items_in_body():
             is_import = (member.kind, member.name) == ("ghost", "use")
             if not is_import and (self.kind, member.kind) != ("trait", "fn"):
-                lines = [line for line in member.above if line.startswith("//")] + member.shown()
+                lines = [line for line in member.above if line.startswith("//")] + member.lines_without_bodies()
                 lines[-1] += ";" if member.kind == "fn" else ""
                 inner += ["", *lines]
         lines = ["    " + line if line else "" for line in inner[1:]]
         return [*self.head[:-1], self.head[-1] + " {", *lines, "}"] if inner else self.head
 
 
-def items(lines, number=1):
+def parse_items(lines, number=1):
     """The items of these lines, of which the first has this number, except those of tests."""
     above, begin, depth = [], None, 0
     for i, line in enumerate(lines):
@@ -92,18 +92,18 @@ def items(lines, number=1):
         is_outer = line[:1] != " "
         if is_outer and line.endswith(("}", ";")) or depth == 0 and line.endswith(";"):
             if "#[cfg(test)]" not in above:
-                yield Item(above, lines[begin:i + 1], number + begin)
+                yield SourceItem(above, lines[begin:i + 1], number + begin)
             above, begin, depth = [], None, 0
 
 
-class Module:
+class SourceModule:
     """A file of src/: its path in the crate, and its items."""
 
     def __init__(self, file, path):
         self.file, self.path, self.text = file, path, read(file)
         self.doc = [line[4:] for line in self.text.splitlines() if line.startswith("//!")]
         try:
-            self.items = list(items(self.text.splitlines()))
+            self.items = list(parse_items(self.text.splitlines()))
         except Unreadable as error:
             raise Unreadable(f"{file}, {error}") from None
 
@@ -114,17 +114,17 @@ class Module:
                 and item.name not in own for line in item.lines]
 
 
-def modules(file, path=()):
+def modules_of_crate(file, path=()):
     """The modules of a crate, from this file on."""
-    module = Module(file, path)
+    module = SourceModule(file, path)
     yield module
     folder = file[:-len(".rt")] if path else os.path.dirname(file)
     for item in module.items:
         if item.kind == "mod":
-            yield from modules(f"{folder}/{item.name}.rt", (*path, item.name))
+            yield from modules_of_crate(f"{folder}/{item.name}.rt", (*path, item.name))
 
 
-def exported(crate):
+def reexported_paths(crate):
     """The shorter public paths of items of these modules that `pub use` makes, by their full ones."""
     found = {}
     for module in crate:
@@ -136,7 +136,7 @@ def exported(crate):
 
 
 @dataclass
-class Word:
+class SpecDefinition:
     """A definition: its file without .antt, what it is, its comment and its lines."""
     file: str
     is_public: bool
@@ -150,7 +150,7 @@ class Word:
         return f"{self.kind}`{self.file}.{self.name}`"
 
 
-def words_of(crate):
+def definitions_of_crate(crate):
     """The definitions of a crate, in the order of the files in its Lib.antt."""
     library = read(f"crates/{crate}/specs/Lib.antt")
     for file in re.findall(r"^pub mod (\w+)", library, re.MULTILINE):
@@ -163,4 +163,4 @@ def words_of(crate):
                     raise Unreadable(f"crates/{crate}/specs/{file}.antt: tools/read_sources.py finds no definition in "
                                      f"{lines[0]!r}")
                 public, kind, name = match.groups("")
-                yield Word(file, bool(public), kind, name, comment, lines)
+                yield SpecDefinition(file, bool(public), kind, name, comment, lines)

@@ -23,15 +23,15 @@ trial=no left=() absent=
 [ "${1-}" != --trial ] || { trial=yes && shift; }
 say() { echo "release.sh: $1" >&2; }
 # Runs a command, whose output is shown only if it fails.
-quietly() { "$@" >"$work/log" 2>&1 || { cat "$work/log" >&2 && stop "failed: $*"; }; }
+run_quietly() { "$@" >"$work/log" 2>&1 || { cat "$work/log" >&2 && stop "failed: $*"; }; }
 
 # ---- The tools
 crates=${VULFSJOR_CRATES:-/usr/share/cargo/registry}
 while IFS= read -r line; do absent+="${line%%,*} " left+=("$line"); done < <(absent_tools)
 can_make() { [[ " $absent" != *" $1 "* ]]; }
-list_left() { for each in ${left[@]+"${left[@]}"}; do say "left out: $each"; done; }
+print_left_out_artifacts() { for each in ${left[@]+"${left[@]}"}; do say "left out: $each"; done; }
 [ -z "$absent" ] || { [ "$trial" = yes ] && can_make release; } ||
-    { list_left && stop "install these tools, or use --trial to make the rest"; }
+    { print_left_out_artifacts && stop "install these tools, or use --trial to make the rest"; }
 
 export LC_ALL=C TZ=UTC PYTHONDONTWRITEBYTECODE=1 GIT_CONFIG_NOSYSTEM=1 GIT_NO_REPLACE_OBJECTS=1 CARGO_NET_OFFLINE=true \
     CARGO_INCREMENTAL=0 PIP_CONFIG_FILE=/dev/null HOME SOURCE_DATE_EPOCH
@@ -48,7 +48,7 @@ git() { command git -C "$work/git" "$@"; }
 SOURCE_DATE_EPOCH=$(git log -1 --format=%ct "$commit")
 
 # An archive of a folder of `work`, the same for everybody: NAME
-packed() {
+write_reproducible_archive() {
     tar -C "$work" --sort=name --mtime="@$SOURCE_DATE_EPOCH" --owner=0 --group=0 --numeric-owner --format=ustar \
         --mode=u=rwX,go=rX -cf - "$1" | xz --threads=1 -6 >"$out/$1.tar.xz"
 }
@@ -76,7 +76,7 @@ if [ -n "$last" ] && git show "$last:c/abi.txt" >"$work/abi" 2>/dev/null; then
         [ -z "$(grep ^VULFSJOR_ "$work/abi" | grep -vxFf c/abi.txt)" ] ||
         stop "c/abi.txt has lost lines of $last: the soname must change"
 fi
-packed "$name"
+write_reproducible_archive "$name"
 
 # Adds the pages to a folder of programs, whose links to other files would lead nowhere, and what it was built from:
 # FOLDER COMPILER
@@ -100,10 +100,10 @@ add_pages() {
 # ---- The conformance cases, whose page has links to files that are not there.
 make_conformance() {
     mkdir "$work/$name-conformance"
-    quietly tests/conformance/write.py "$work/$name-conformance"
+    run_quietly tests/conformance/write.py "$work/$name-conformance"
     cp tests/conformance/{SUMS,others.txt} "$work/$name-conformance/"
     sed -Ez 's/\[([^]]+)\]\([^)]*\)/\1/g' tests/conformance/README.md >"$work/$name-conformance/README.md"
-    packed "$name-conformance"
+    write_reproducible_archive "$name-conformance"
 }
 
 # ---- Linux: what make install installs, in a folder of its own, with programs that need no library.
@@ -118,14 +118,14 @@ exec musl-gcc -fPIE -nostartfiles -static -Wl,-pie,--no-dynamic-linker,-z,text -
     $musl/crtn.o
 END
     chmod +x "$work/static"
-    for program in b2 b2sum; do CC=$work/static quietly ./$program --build "$work/made/$program"; done
-    quietly c/install.sh --build "$work/made/lib"
-    prefix=/$linux DESTDIR=$work quietly tools/install_programs.sh "$work/made" b2 b2sum
-    DESTDIR=$work quietly c/install.sh --built "$work/made/lib" "/$linux"
+    for program in b2 b2sum; do CC=$work/static run_quietly ./$program --build "$work/made/$program"; done
+    run_quietly c/install.sh --build "$work/made/lib"
+    prefix=/$linux DESTDIR=$work run_quietly tools/install_programs.sh "$work/made" b2 b2sum
+    DESTDIR=$work run_quietly c/install.sh --built "$work/made/lib" "/$linux"
     add_pages "$work/$linux" cc
     { /lib/ld-musl-"$processor".so.1 2>&1 || :; } | sed -n 's/^Version /musl: /p' >>"$work/$linux/BUILD"
     cp /usr/share/doc/musl/copyright "$work/$linux/COPYRIGHT.musl"
-    packed "$linux"
+    write_reproducible_archive "$linux"
 }
 
 # ---- Windows, with the version in its programs and the library.
@@ -134,9 +134,10 @@ make_windows() {
     mkdir -p "$work/$windows/bin"
     sed "s/@NUMBERS@/${version//./,},0/g;s/@VERSION@/$version/" packaging/version.rc | $of-windres -o "$work/version.o"
     for program in b2 b2sum; do
-        CC="$of-gcc -static" LDFLAGS="-s $work/version.o" quietly ./$program --build "$work/$windows/bin/$program.exe"
+        CC="$of-gcc -static" LDFLAGS="-s $work/version.o" run_quietly ./$program --build \
+            "$work/$windows/bin/$program.exe"
     done
-    CC=$of-gcc LDFLAGS="-s $work/version.o" quietly c/install.sh "$work/$windows"
+    CC=$of-gcc LDFLAGS="-s $work/version.o" run_quietly c/install.sh "$work/$windows"
     add_pages "$work/$windows" $of-gcc
     find "$work/$windows" -exec touch -h -d "@$SOURCE_DATE_EPOCH" {} +
     (cd "$work" && find "$windows" | sort | zip -qX -@ "$out/$windows.zip")
@@ -147,7 +148,7 @@ make_python() {
     local each folder headers
     headers=$(python3 -c 'import sysconfig; print(sysconfig.get_path("include"))')
     mkdir "$out/python" "$work/sdist"
-    quietly python3 python/build_package.py sdist "$out/python"
+    run_quietly python3 python/build_package.py sdist "$out/python"
     tar -C "$work/sdist" -xf "$out/python/$name.tar.gz"
     # Headers of Debian have what differs by the processor in a folder that only its own compilers find.
     for each in aarch64 x86_64; do
@@ -156,13 +157,14 @@ make_python() {
         echo "#include \"/usr/include/$processor-linux-gnu/${headers##*/}/pyconfig.h\"" >"$folder/pyconfig.h"
     done
     # A wheel: PLATFORM VARIABLE..
-    wheel() {
-        quietly env VULFSJOR_WHEEL_PLATFORM="$1" "${@:2}" python3 "$work/sdist/$name/build_package.py" wheel \
+    make_wheel() {
+        run_quietly env VULFSJOR_WHEEL_PLATFORM="$1" "${@:2}" python3 "$work/sdist/$name/build_package.py" wheel \
             "$out/python"
     }
-    wheel "manylinux_2_17_$processor"
-    wheel manylinux_2_17_aarch64 CC=aarch64-linux-gnu-gcc _PYTHON_HOST_PLATFORM=linux-aarch64 CFLAGS="-I$work/headers"
-    wheel "musllinux_1_2_$processor" CC=musl-gcc CFLAGS="-I$work/headers"
+    make_wheel "manylinux_2_17_$processor"
+    make_wheel manylinux_2_17_aarch64 CC=aarch64-linux-gnu-gcc _PYTHON_HOST_PLATFORM=linux-aarch64 \
+        CFLAGS="-I$work/headers"
+    make_wheel "musllinux_1_2_$processor" CC=musl-gcc CFLAGS="-I$work/headers"
 }
 
 # ---- Rust: the crates, the second over the first.
@@ -172,23 +174,25 @@ make_crates() {
     for each in "$crates"/*; do [ ! -d "$each" ] || ln -s "$each" "$found/"; done
     config=(--config 'source.crates-io.replace-with="here"' --config "source.here.directory=\"$found\"")
     # A crate of this folder, which is then one of those that cargo finds: MANIFEST NAME
-    crate() {
-        quietly env CARGO_TARGET_DIR="$work/target" cargo package -q --offline --no-verify --allow-dirty \
+    make_crate() {
+        run_quietly env CARGO_TARGET_DIR="$work/target" cargo package -q --offline --no-verify --allow-dirty \
             --manifest-path "$1" "${config[@]}"
         cp "$work/target/package/$2-$version.crate" "$out/"
         tar -C "$found" -xzf "$out/$2-$version.crate"
         printf '{"files":{},"package":"%s"}\n' "$(sha256sum <"$out/$2-$version.crate" | cut -d ' ' -f 1)" \
             >"$found/$2-$version/.cargo-checksum.json"
     }
-    crate Cargo.toml vulfsjor
-    ! can_make vulfsjor-digest || crate rust-digest/Cargo.toml vulfsjor-digest
+    make_crate Cargo.toml vulfsjor
+    ! can_make vulfsjor-digest || make_crate rust-digest/Cargo.toml vulfsjor-digest
 }
 
 # ---- JavaScript, and the packages of distributions.
-make_npm() { (cd js && quietly npm pack --silent --offline --pack-destination "$out"); }
-packages() { quietly tools/packages.sh "$2" "$out/$name.tar.xz" "$out/$1"; }
-make_debian() { packages debian amd64 && packages debian arm64 && packages debian i386 && packages debian s390x; }
-make_rpm() { packages rpm rpm; }
+make_npm() { (cd js && run_quietly npm pack --silent --offline --pack-destination "$out"); }
+make_packages() { run_quietly tools/packages.sh "$2" "$out/$name.tar.xz" "$out/$1"; }
+make_debian() {
+    make_packages debian amd64 && make_packages debian arm64 && make_packages debian i386 && make_packages debian s390x
+}
+make_rpm() { make_packages rpm rpm; }
 
 for each in conformance linux windows python crates npm debian rpm; do
     can_make $each || continue
@@ -202,5 +206,5 @@ VULFSJOR_CRATES=$crates "$source/tests/artifacts.sh" "$out" || stop "an artifact
 find . -type f -printf '%P\n' | sort | xargs b2sum --tag -- >"$work/SUMS" && mv "$work/SUMS" .
 grep -qE '^license(-file)? = ' "$source/Cargo.toml" ||
     left+=("everything may be published by its owner only: no license")
-list_left
+print_left_out_artifacts
 say "the artifacts and SUMS are in $out"

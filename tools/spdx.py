@@ -15,18 +15,18 @@ import sys
 NONE = "NOASSERTION"
 
 
-def package(name, version, license_, **more):
+def spdx_package(name, version, license_, **more):
     return {"SPDXID": f"SPDXRef-{''.join(it if it.isalnum() else '-' for it in name)}", "name": name,
             "versionInfo": version, "downloadLocation": NONE, "filesAnalyzed": False, "licenseConcluded": license_,
             "licenseDeclared": license_, "copyrightText": NONE, **more}
 
 
-def document(version, commit, paths):
+def spdx_document(version, commit, paths):
     """The document, whose first artifact that is an archive of the sources is what all others are made from."""
-    artifacts = [package(os.path.basename(path), version, "NONE", checksums=[
+    artifacts = [spdx_package(os.path.basename(path), version, "NONE", checksums=[
         {"algorithm": "SHA256", "checksumValue": hashlib.sha256(pathlib.Path(path).read_bytes()).hexdigest()}])
         for path in paths]
-    musl = package("musl", NONE, "MIT")
+    musl = spdx_package("musl", NONE, "MIT")
     source = next(it for it in artifacts if it["name"] == f"vulfsjor-{version}.tar.xz")
     source["sourceInfo"] = f"git commit {commit}"
     links = [("SPDXRef-DOCUMENT", "DESCRIBES", it) for it in artifacts]
@@ -43,4 +43,4 @@ def document(version, commit, paths):
 
 if len(sys.argv) < 4:
     sys.exit("usage: tools/spdx.py VERSION COMMIT ARTIFACT..")
-print(json.dumps(document(sys.argv[1], sys.argv[2], sys.argv[3:]), indent=1))
+print(json.dumps(spdx_document(sys.argv[1], sys.argv[2], sys.argv[3:]), indent=1))

@@ -27,13 +27,13 @@ OTHERS = re.compile(r"(?i)blake2x?s")
 LEAVES = re.compile(r"(?m)^(.*)\b2\b(.*,\n)\1\b3\b.*\n(?!\1\b4\b)")
 
 
-def for_leaves(match):
+def expand_leaf_lines(match):
     """What lines for leaves 2 and 3 become: those for leaves 2 to 7."""
     second = match[1] + "2" + match[2]
     return "".join(re.sub(r"\b2\b", str(k), second) for k in range(2, 8))
 
 
-class Table:
+class TwinTable:
     """The table: which files are written by hand, and what becomes what in which files."""
 
     def __init__(self):
@@ -52,109 +52,109 @@ class Table:
                 self.lines.append((files, old, new if arrow else old))
 
     @functools.cache
-    def rules(self, path):
+    def replacements_for_file(self, path):
         """What is replaced in this file, and by what, and a pattern for it."""
-        fitting = {files: fits(path, files) for files, _, _ in self.lines}
+        fitting = {files: path_matches_any(path, files) for files, _, _ in self.lines}
         here = {old: (new, i) for i, (files, old, new) in enumerate(self.lines) if fitting[files]}
-        return here, re.compile("|".join(map(whole, sorted(here, key=len, reverse=True))))
+        return here, re.compile("|".join(map(whole_text_pattern, sorted(here, key=len, reverse=True))))
 
-    def twin(self, path, text):
+    def twin_text(self, path, text):
         """A text of this file, or its path itself, for the other family."""
-        here, pattern = self.rules(path)
+        here, pattern = self.replacements_for_file(path)
 
         def replace(match):
             new, line = here[match[0]]
             self.used.add(line)
             return new
 
-        return LEAVES.sub(for_leaves, pattern.sub(replace, text))
+        return LEAVES.sub(expand_leaf_lines, pattern.sub(replace, text))
 
-    def made_files(self):
+    def generated_files(self):
         """The files to make, with their texts."""
-        for path in sources():
-            other = self.twin(path, path)
-            if other != path and not fits(path, self.by_hand):
+        for path in source_files():
+            other = self.twin_text(path, path)
+            if other != path and not path_matches_any(path, self.by_hand):
                 line = f"{'//' if path.endswith('.rt') else '--'} {MADE} {path.split('/', 2)[2]}.\n"
-                yield other, line + self.twin(path, read(path))
+                yield other, line + self.twin_text(path, read(path))
         for path in self.in_part:
-            yield path, "\n\n".join(text for _, text in self.paragraphs(path)) + "\n"
+            yield path, "\n\n".join(text for _, text in self.paragraphs_as_generated(path)) + "\n"
 
-    def twins_in(self, path):
+    def generated_paragraphs(self, path):
         """The paragraphs of this file that are made, by name, and the names of new ones by those above them."""
         origin, by_hand = self.in_part[path]
         made, new, above = {}, {}, None
-        here = {called(it) for it in parts_of(path)}
-        for text in parts_of(origin):
-            name = called(text)
-            twin = name and self.twin(origin, name)
+        here = {name_of_paragraph(it) for it in split_paragraphs(path)}
+        for text in split_paragraphs(origin):
+            name = name_of_paragraph(text)
+            twin = name and self.twin_text(origin, name)
             if name and (twin != name or path != origin) and twin not in by_hand:
-                made[twin] = self.twin(origin, text)
+                made[twin] = self.twin_text(origin, text)
                 if twin not in here:
                     new[above] = twin
             above = twin
         return made, new
 
-    def paragraphs(self, path):
+    def paragraphs_as_generated(self, path):
         """The paragraphs of this file with their names, as they should be. One that is new follows the twin of the one
         above its own."""
-        made, new = self.twins_in(path)
-        for text in parts_of(path):
-            name = called(text)
+        made, new = self.generated_paragraphs(path)
+        for text in split_paragraphs(path):
+            name = name_of_paragraph(text)
             yield name, made.get(name, text)
             while name := new.get(name):
                 yield name, made[name]
 
-    def wrong_parts(self):
+    def errors_in_generated_parts(self):
         """What files that are made in part have too much, or have no place for."""
         for path, (origin, by_hand) in self.in_part.items():
-            made, _ = self.twins_in(path)
-            names = [name for name, _ in self.paragraphs(path)]
+            made, _ = self.generated_paragraphs(path)
+            names = [name for name, _ in self.paragraphs_as_generated(path)]
             yield from (f"{path} has no place for {name}: write its first line there" for name in made
                         if name not in names)
             yield from (f"{path}: {name} is made from nothing in {origin}" for name in names
                         if name and path == origin and OTHERS.search(name) and name not in [*made, *by_hand])
             indent = " " * (4 if path.endswith(".h") else 8)
             yield from (f"{file} has an empty line in a function, above {text.strip().partition(chr(10))[0]!r}"
-                        for file in {path, origin} for text in parts_of(file) if text.startswith(indent))
-            either = [*names, *map(called, parts_of(origin))]
+                        for file in {path, origin} for text in split_paragraphs(file) if text.startswith(indent))
+            either = [*names, *map(name_of_paragraph, split_paragraphs(origin))]
             yield from (f"{TABLE}: neither {path} nor {origin} has {name}" for name in by_hand if name not in either)
             yield from (f"{path} has {name} more than once" for name in made if names.count(name) > 1)
 
-    def unused(self):
+    def unused_table_lines(self):
         """What the table replaces and no file has, and its patterns of files that are there no longer."""
         yield from (old for i, (_, old, _) in enumerate(self.lines) if i not in self.used)
-        yield from (it for it in self.by_hand if not any(fits(path, [it]) for path in sources()))
+        yield from (it for it in self.by_hand if not any(path_matches_any(path, [it]) for path in source_files()))
 
 
-def fits(path, patterns):
+def path_matches_any(path, patterns):
     return any(fnmatchcase("/" + path, pattern if pattern[0] == "/" else "/crates/" + pattern) for pattern in patterns)
 
 
-def parts_of(path):
+def split_paragraphs(path):
     """The paragraphs of a file, which empty lines are between."""
     return read(path).removesuffix("\n").split("\n\n")
 
 
-def called(paragraph):
+def name_of_paragraph(paragraph):
     match = CALLED.search(paragraph)
     return match and (match[1] or match[2])
 
 
 @functools.cache
-def whole(old):
+def whole_text_pattern(old):
     """A pattern for this text, in which a number at an end is no part of a word, another number or an exponent."""
     return ((r"(?<![\w^])(?<!\d\.)" if old[0].isdigit() else "") + re.escape(old)
             + (r"(?!\w)" if old[-1].isdigit() else ""))
 
 
 @functools.cache
-def sources():
+def source_files():
     return [f"{folder}/{name}"[len(TOP) + 1:] for crate in sorted(os.listdir(f"{TOP}/crates"))
             for part in ("src", "specs", "proofs") for folder, _, names in os.walk(f"{TOP}/crates/{crate}/{part}")
             for name in names if name.endswith((".rt", ".antt"))]
 
 
-def attributes():
+def generated_attribute_patterns():
     """The patterns of .gitattributes for crates/, and whether what has one is generated."""
     for line in read(".gitattributes").splitlines():
         if line.startswith("crates/"):
@@ -165,10 +165,10 @@ def attributes():
             yield pattern, "".join(parts), attribute == "linguist-generated"
 
 
-def wrong_attributes(made):
+def wrong_generated_attributes(made):
     """What .gitattributes says otherwise than that these files are generated."""
-    patterns, deciding = list(attributes()), set()
-    for path in sources():
+    patterns, deciding = list(generated_attribute_patterns()), set()
+    for path in source_files():
         *before, (last, _, generated) = [("", "", False), *(it for it in patterns if re.fullmatch(it[1], path))]
         if before and generated != before[-1][2]:
             deciding.add(last)
@@ -178,11 +178,11 @@ def wrong_attributes(made):
 
 
 def main(checks):
-    table = Table()
-    made = dict(table.made_files())
+    table = TwinTable()
+    made = dict(table.generated_files())
     wrong = sorted(path for path, text in made.items() if read(path) != text)
-    gone = sorted(path for path in sources() if MADE in read(path).partition("\n")[0] and path not in made)
-    faults = [f"{TABLE}: no file has {old!r}" for old in table.unused()]
+    gone = sorted(path for path in source_files() if MADE in read(path).partition("\n")[0] and path not in made)
+    faults = [f"{TABLE}: no file has {old!r}" for old in table.unused_table_lines()]
     if checks:
         for path in wrong:
             lines, wanted = read(path).splitlines(True), made[path].splitlines(True)
@@ -190,8 +190,8 @@ def main(checks):
         faults += [f"{path} is not as it is made: change what it is made from, or {TABLE}, and run tools/twins.py"
                    for path in wrong]
         faults += [f"{path} is made from no file: run tools/twins.py" for path in gone]
-        faults += table.wrong_parts()
-        faults += wrong_attributes([path for path in made if path not in table.in_part])
+        faults += table.errors_in_generated_parts()
+        faults += wrong_generated_attributes([path for path in made if path not in table.in_part])
     else:
         for path in wrong:
             os.makedirs(os.path.dirname(f"{TOP}/{path}"), exist_ok=True)

@@ -40,11 +40,11 @@ def refuse(why):
     sys.exit(f"version.py: {why}")
 
 
-def headings():
+def released_versions():
     return re.findall(rf"(?m)^## ({NUMBER})\b", read("CHANGELOG.md"))
 
 
-def places(version):
+def places_of_version(version):
     """The places: for each its file, what is there, as a match, and what this version would be there."""
     for path, before, after, *form in PLACES:
         matches = list(re.finditer(f"({before})([0-9a-fx.]+)({after})", read(path)))
@@ -54,23 +54,24 @@ def places(version):
 
 
 def check():
-    version = headings()[0]
-    said = [f"{path} has {match[2]}, and CHANGELOG.md has {version}" for path, match, wanted in places(version)
+    version = released_versions()[0]
+    said = [f"{path} has {match[2]}, and CHANGELOG.md has {version}" for path, match,
+            wanted in places_of_version(version)
             if match[2] != wanted]
     match = re.search(rf'b"b2sum \(Vulfsjor\) ({NUMBER})\\n"', read(PROGRAM))
-    if not match or match[1] not in headings():
+    if not match or match[1] not in released_versions():
         said.append(f"CHANGELOG.md has no heading for the version {match and match[1]} in {PROGRAM}")
     if said:
         refuse("\nversion.py: ".join(said))
 
 
 def write(version):
-    if version not in headings():
+    if version not in released_versions():
         text = read("CHANGELOG.md").replace("\n## ", f"\n## {version}\n\n## ", 1)
         (TOP / "CHANGELOG.md").write_text(text, encoding="utf-8")
-    elif version != headings()[0]:
+    elif version != released_versions()[0]:
         refuse(f"CHANGELOG.md has a newer version than {version}")
-    for path, match, wanted in places(version):
+    for path, match, wanted in places_of_version(version):
         text = match.string[:match.start(2)] + wanted + match.string[match.end(2):]
         (TOP / path).write_text(text, encoding="utf-8")
     subprocess.run([TOP / "tools" / "manual.py"], check=True)

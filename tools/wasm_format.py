@@ -8,7 +8,7 @@ import re
 from typing import Any
 
 
-class CannotRead(Exception):
+class UnreadableModule(Exception):
     """The module has something that this does not know."""
 
 
@@ -64,137 +64,137 @@ UNNAMED = {14, 19, 20, *range(35, 84), *range(94, 256)} - {*_UNUSED} - {*VECTOR}
 MORE = {8: "memory.init uu", 10: "memory.copy ll", 11: "memory.fill l"}
 
 
-class Reader:
+class ModuleReader:
     """Bytes with a position."""
 
     def __init__(self, data: bytes) -> None:
         self.data, self.at = data, 0
 
-    def take(self, n: int) -> bytes:
+    def read_bytes(self, n: int) -> bytes:
         if n > len(self.data) - self.at:
-            raise CannotRead("the module ends too early")
+            raise UnreadableModule("the module ends too early")
         self.at += n
         return self.data[self.at - n:self.at]
 
-    def byte(self) -> int:
-        return self.take(1)[0]
+    def read_byte(self) -> int:
+        return self.read_bytes(1)[0]
 
-    def number(self, signed: bool = False) -> int:
+    def read_leb128(self, signed: bool = False) -> int:
         """A number in LEB128."""
         value = shift = 0
         while True:
-            b = self.byte()
+            b = self.read_byte()
             value |= (b & 127) << shift
             shift += 7
             if b < 128:
                 return value - (1 << shift) if signed and b & 64 else value
 
-    def operands(self, kinds: str) -> list:
+    def read_operands(self, kinds: str) -> list:
         """The numbers after an opcode, as text."""
         found = []
         for kind in kinds:
             if kind == "b":
-                n = self.number(True)      # below 0: none, or a type of values
+                n = self.read_leb128(True)      # below 0: none, or a type of values
                 found += [] if n == -64 else [TYPES.get(n & 127, "type") if n < 0 else "type"]
             elif kind == "m":
-                if self.number() > 0x3f:
-                    raise CannotRead("the module has several memories")
-                found.append(str(self.number()))
+                if self.read_leb128() > 0x3f:
+                    raise UnreadableModule("the module has several memories")
+                found.append(str(self.read_leb128()))
             elif kind == "t":
-                found += [str(self.number()) for _ in range(self.number() + 1)]
+                found += [str(self.read_leb128()) for _ in range(self.read_leb128() + 1)]
             elif kind == "v":
-                found += [str(b) for b in self.take(16)]
+                found += [str(b) for b in self.read_bytes(16)]
             else:
-                found.append(str(self.byte() if kind == "l" else self.number(kind == "s")))
+                found.append(str(self.read_byte() if kind == "l" else self.read_leb128(kind == "s")))
         return found
 
-    def instruction(self) -> str:
+    def read_instruction(self) -> str:
         """The next instruction, as text."""
-        code = self.byte()
+        code = self.read_byte()
         table = {0xfc: MORE, 0xfd: VECTOR}.get(code, PLAIN)
         if table is not PLAIN:
-            code = self.number()
+            code = self.read_leb128()
         known = table.get(code)
         if known is None and not (table is VECTOR and code in UNNAMED
                                   or table is MORE and code < 8):
-            raise CannotRead("the opcode %#x is not known: add it to tools/wasm_format.py"
+            raise UnreadableModule("the opcode %#x is not known: add it to tools/wasm_format.py"
                              % code)
         name, _, kinds = (known or "vector_%d" % code).partition(" ")
-        return " ".join([name] + self.operands(kinds))
+        return " ".join([name] + self.read_operands(kinds))
 
 
-class Function:
+class WasmFunction:
     """The types of the parameters and of the locals, and the instructions as text."""
 
     def __init__(self, parameters: list, results: list, body: bytes) -> None:
         self.parameters, self.results = parameters, results
-        reader = Reader(body)
+        reader = ModuleReader(body)
         self.locals = list(parameters)
-        for _ in range(reader.number()):
-            count = reader.number()
-            self.locals += [TYPES[reader.byte()]] * count
+        for _ in range(reader.read_leb128()):
+            count = reader.read_leb128()
+            self.locals += [TYPES[reader.read_byte()]] * count
         self.lines = []
         while reader.at < len(body):
-            self.lines.append(reader.instruction())
+            self.lines.append(reader.read_instruction())
 
 
-class Module:
+class WasmModule:
     """The functions, by their index, the width of addresses in bits, and names if there are any."""
 
     names: dict
     sections: dict
 
     def __init__(self, data: bytes) -> None:
-        reader = Reader(data)
-        if reader.take(8) != b"\0asm\1\0\0\0":
-            raise CannotRead("this is not a WebAssembly module of version 1")
+        reader = ModuleReader(data)
+        if reader.read_bytes(8) != b"\0asm\1\0\0\0":
+            raise UnreadableModule("this is not a WebAssembly module of version 1")
         self.sections, self.names = {}, {}
         while reader.at < len(data):
-            id_ = reader.byte()
-            content = Reader(reader.take(reader.number()))
+            id_ = reader.read_byte()
+            content = ModuleReader(reader.read_bytes(reader.read_leb128()))
             if id_ == 0:
                 self.read_names(content)
             elif id_ in self.sections or id_ == START or id_ > LAST:
-                raise CannotRead("the module has a section %d, or has it twice" % id_)
+                raise UnreadableModule("the module has a section %d, or has it twice" % id_)
             else:
                 self.sections[id_] = content
         sections = self.sections
         if 2 in sections:
-            raise CannotRead("the module has imports, so its functions are counted otherwise")
-        types = [self.read_type(sections[1]) for _ in range(sections[1].number())]
-        used = [types[sections[3].number()] for _ in range(sections[3].number())]
+            raise UnreadableModule("the module has imports, so its functions are counted otherwise")
+        types = [self.read_type(sections[1]) for _ in range(sections[1].read_leb128())]
+        used = [types[sections[3].read_leb128()] for _ in range(sections[3].read_leb128())]
         code = sections[10]
-        count = code.number()
+        count = code.read_leb128()
         if count != len(used):
-            raise CannotRead("the module has %d bodies of %d functions" % (count, len(used)))
-        self.functions = [Function(parameters, results, code.take(code.number()))
+            raise UnreadableModule("the module has %d bodies of %d functions" % (count, len(used)))
+        self.functions = [WasmFunction(parameters, results, code.read_bytes(code.read_leb128()))
                           for parameters, results in used]
-        if sections[5].number() != 1:
-            raise CannotRead("the module has not one memory")
-        self.width = 64 if sections[5].byte() & 4 else 32
+        if sections[5].read_leb128() != 1:
+            raise UnreadableModule("the module has not one memory")
+        self.width = 64 if sections[5].read_byte() & 4 else 32
 
-    def read_type(self, reader: Reader) -> list:
+    def read_type(self, reader: ModuleReader) -> list:
         """The parameters and the results of a type of functions."""
-        if reader.byte() != 0x60:
-            raise CannotRead("a type is not that of a function")
-        return [[TYPES[b] for b in reader.take(reader.number())] for _ in range(2)]
+        if reader.read_byte() != 0x60:
+            raise UnreadableModule("a type is not that of a function")
+        return [[TYPES[b] for b in reader.read_bytes(reader.read_leb128())] for _ in range(2)]
 
-    def read_names(self, reader: Reader) -> None:
+    def read_names(self, reader: ModuleReader) -> None:
         """The names of functions, by index, in the section "name"."""
-        if reader.take(reader.number()) != b"name":
+        if reader.read_bytes(reader.read_leb128()) != b"name":
             return
         while reader.at < len(reader.data):
-            id_ = reader.byte()
-            part = Reader(reader.take(reader.number()))
+            id_ = reader.read_byte()
+            part = ModuleReader(reader.read_bytes(reader.read_leb128()))
             if id_ == 1:
-                for _ in range(part.number()):
-                    index = part.number()
-                    self.names[index] = part.take(part.number()).decode()
+                for _ in range(part.read_leb128()):
+                    index = part.read_leb128()
+                    self.names[index] = part.read_bytes(part.read_leb128()).decode()
 
 
-def module_of_script(text: str) -> Any:
+def module_bytes_of_script(text: str) -> Any:
     """The bytes of the module that a file js/src/wasm*.js has in base64."""
     m = re.search(r'const text =\s*"([A-Za-z0-9+/=]+)"', text)
     if not m:
-        raise CannotRead("a file js/src/wasm*.js has no module in base64 after `const text =`")
+        raise UnreadableModule("a file js/src/wasm*.js has no module in base64 after `const text =`")
     return base64.b64decode(m[1], validate=True)

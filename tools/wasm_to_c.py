@@ -6,14 +6,14 @@ usage: tools/wasm_to_c.py MODULE c/include/vulfsjor.h >vulfsjor.c
 An address of the module is the address of a byte of the program, and its memory is the program's: nothing is copied.
 Each function becomes a static function, an exported one also a function of the header. Locals and operands become
 variables, blocks become labels. All arithmetic is unsigned. What this file does not know, it refuses with a line that
-names it: imports, data, tables, vectors, floating point, blocks with results, and every opcode that `step` and
-`arithmetic` do not list.
+names it: imports, data, tables, vectors, floating point, blocks with results, and every opcode that
+`translate_instruction` and `binary_operation` do not list.
 
 Three things are more than a translation, and each is refused in any other form:
 
   - The stack. The part that a function takes of the module's stack becomes an array in it, aligned as the module's
-    stack is: LLVM writes + 8 as | 8. `Body` follows the stack pointer through locals, and refuses an access outside of
-    the array. Whether the stack has room is not asked (C cannot know).
+    stack is: LLVM writes + 8 as | 8. `FunctionBody` follows the stack pointer through locals, and refuses an access
+    outside of the array. Whether the stack has room is not asked (C cannot know).
   - The flag that a call is under way (Rattle's global 1) is left out, because threads would share it.
   - scrub_stack::<=N>, which does nothing in WebAssembly, becomes a function that overwrites N bytes of the C stack, and
     MARGIN more.
@@ -23,9 +23,9 @@ import re
 import sys
 import textwrap
 
-from wasm_body import RUNTIME, Body
-from wasm_format import CannotRead, Module, Reader
-from wasm_values import BITS, Branch, Mark, Refused, literal, refuse_unless
+from wasm_body import RUNTIME, FunctionBody
+from wasm_format import UnreadableModule, WasmModule, ModuleReader
+from wasm_values import BITS, BranchStatement, BlockMark, UntranslatableModule, untyped_literal, refuse_unless
 
 HERE = os.path.dirname(os.path.abspath(__file__))
 MARGIN = 2048  # bytes of the stack
@@ -35,7 +35,7 @@ SCRUB = ("block; global.get 0; local.tee 0; i64.const 16; i64.lt_s; br_if 0; cal
          "return; end; unreachable; end")
 
 
-class C:
+class CWriter:
     """How a function is written in C."""
 
     # A number of a type, an expression of another type, and all bits changed.
@@ -55,26 +55,26 @@ class C:
 
     def argument(self, _, value):
         """An operand as an argument of another type."""
-        return value.plain()
+        return value.expression_of_known_type()
 
-    def choice(self, c, a, b):
+    def conditional_expression(self, c, a, b):
         """One of two."""
         return f"({c.condition or c.text} ? {a} : {b})"
 
-    def operation(self, a, operator, b):
+    def binary_expression(self, a, operator, b):
         """An operator between two operands."""
-        first = a.beside(b) if a.number is not None else a.before(operator)
-        return f"({first} {operator} {b.beside(a)})"
+        first = a.expression_beside_operand(b) if a.number is not None else a.expression_before_operator(operator)
+        return f"({first} {operator} {b.expression_beside_operand(a)})"
 
     def condition(self, c):
         """An operand as a condition."""
-        return c.condition or c.plain()
+        return c.condition or c.expression_of_known_type()
 
     def head(self, name, c_name, function):
         """The first lines of a function of the module."""
         result = self.type(function.results[0]) if function.results else "void"
         words = ", ".join(f"{self.type(type_)} v{k}" for k, type_ in enumerate(function.parameters))
-        return f"/* {name} */\n" + filled(f"APART {result} {c_name}({words or 'void'}) {{")
+        return f"/* {name} */\n" + wrapped_first_lines(f"APART {result} {c_name}({words or 'void'}) {{")
 
     def declarations(self, variables):
         """The declarations of variables, of which each has a name, a type, and whether it is 0 at first."""
@@ -86,10 +86,10 @@ class C:
         """The statements of lines: each sets a variable, or None, to an expression, or is a branch or a mark."""
         texts = []
         for sets, text in lines:
-            if isinstance(text, Branch):
+            if isinstance(text, BranchStatement):
                 where = f"goto {text.block.label};" if text.block else "return;"
                 texts.append(f"if ({text.condition}) {where}" if text.condition else where)
-            elif isinstance(text, Mark):
+            elif isinstance(text, BlockMark):
                 texts += [f"{text.block.label}:;"] * (text.block.is_loop == text.is_begin)
             elif sets:
                 text = re.sub(rf"^({sets}) = \1 ([+*&|^]|<<|>>|-(?!.* [-+] )) ", r"\1 \2= ", f"{sets} = {text};")
@@ -103,14 +103,14 @@ class C:
     def exported(self, name, result, parameters):
         """The first lines of a function of the header."""
         given = ", ".join(f"{const}{type_} {star}{each}" for const, type_, star, each in parameters) or "void"
-        return filled(f"{result} NAME({name})({given})") + " {"
+        return wrapped_first_lines(f"{result} NAME({name})({given})") + " {"
 
-    def passed(self, parameter, _):
+    def argument_of_parameter(self, parameter, _):
         """A parameter of such a function as the module's argument."""
         _, _, star, each = parameter
         return f"ADDRESS({each})" if star else each
 
-    def last_lines(self, call, result, after):
+    def lines_of_call_and_return(self, call, result, after):
         """What such a function does with the call of the module's: if there is something to do after it, unless that
         fails."""
         if after:
@@ -118,12 +118,12 @@ class C:
         return [f"return ({result}){call};" if result != "void" else f"{call};"]
 
 
-def filled(text):
+def wrapped_first_lines(text):
     """The first lines of a function, of at most 100 columns."""
     return textwrap.fill(text, 100, subsequent_indent=" " * 8)
 
 
-class Parts:
+class TemplateParts:
     """The text that no module has: tools/wasm_to_c.c, for example. A part begins with a line that names it, and is
     several if that has their sizes."""
 
@@ -139,7 +139,7 @@ class Parts:
         return re.sub("@([A-Z]+)@", lambda match: str(words[match[1]]), self.texts[name])
 
 
-class Header:
+class HeaderDeclarations:
     """What the header declares."""
 
     def __init__(self, text):
@@ -156,22 +156,22 @@ class Header:
 class Program:
     """The file in C."""
 
-    language, parts_file = C(), "wasm_to_c.c"
+    language, parts_file = CWriter(), "wasm_to_c.c"
 
     def __init__(self, data, header):
-        module = Module(data)
-        self.exports = exports_of(module)
+        module = WasmModule(data)
+        self.exports = exported_functions(module)
         refuse_unless(module.width == 64, "a memory of 32 bits")
         self.functions, self.names = module.functions, module.names
         refuse_unless(sorted(self.names) == list(range(len(self.functions))), "functions without names")
-        self.parts, self.header = Parts(self.parts_file), Header(header)
+        self.parts, self.header = TemplateParts(self.parts_file), HeaderDeclarations(header)
         self.used, self.calls = {"head"}, {}
         self.check_runtime()
         wanted = set(self.header.functions)
         refuse_unless(set(self.exports) == wanted, f"other functions than the header's: "
                       f"{', '.join(sorted({*self.exports} ^ wanted))}")
 
-    def needs(self, part):
+    def require_part(self, part):
         """Says that a part of wasm_to_c.c is called."""
         self.used.add(part)
         if re.fullmatch("(load|store)(16|32|64)", part):
@@ -188,11 +188,11 @@ class Program:
             wanted = RUNTIME.get(name)
             if re.search(r"\bsettle::<=\d+>$", name):
                 wanted = SETTLE
-            elif self.scrubbed(k):
+            elif self.bytes_overwritten_by_scrub(k):
                 wanted = SCRUB.replace("SETTLE", name.replace("scrub_stack", "settle"))
             refuse_unless(wanted in (None, self.lines_of(k)), f"another {name}")
 
-    def wrapped(self, k):
+    def wrapped_callee(self, k):
         """What an exported function calls between __rattle_enter and __rattle_leave, if nothing else, or itself."""
         arguments = "".join(f"local.get {n}; " for n in range(len(self.functions[k].parameters)))
         match = re.fullmatch(f"{ENTER}; {arguments}call (.*?); (local.set (\\d+); )?call __rattle_leave; "
@@ -200,7 +200,7 @@ class Program:
         callees = [callee for callee, name in self.names.items() if match and name == match[1]]
         return callees[0] if callees and bool(match[2]) == bool(self.functions[k].results) else k
 
-    def scrubbed(self, k):
+    def bytes_overwritten_by_scrub(self, k):
         """The bytes of the stack that a function is to overwrite, or 0."""
         match = re.search(r"\bscrub_stack::<=(\d+)>$", self.names[k])
         return int(match[1]) if match else 0
@@ -211,16 +211,16 @@ class Program:
         name = name.removeprefix("blake2_")
         return re.sub("[^A-Za-z0-9_]+", "_", name).strip("_")
 
-    def wiping(self, k):
+    def stack_wiping_function(self, k):
         """The function that overwrites the stack in the place of one of the module."""
-        self.needs("scrub")
-        return f"SCRUB({self.c_name(k)}, {self.scrubbed(k) + MARGIN})"
+        self.require_part("scrub")
+        return f"SCRUB({self.c_name(k)}, {self.bytes_overwritten_by_scrub(k) + MARGIN})"
 
     def function(self, k):
         """A function of the module."""
         refuse_unless(len(self.functions[k].results) <= 1, "several results")
         head = self.language.head(self.names[k], self.c_name(k), self.functions[k])
-        return f"{head}\n{Body(self, self.functions[k])}\n}}"
+        return f"{head}\n{FunctionBody(self, self.functions[k])}\n}}"
 
     def all_functions(self):
         """The functions that are called, callees first."""
@@ -228,24 +228,24 @@ class Program:
 
         def visit(k):
             if k not in texts:
-                texts[k] = None if self.scrubbed(k) else self.function(k)
+                texts[k] = None if self.bytes_overwritten_by_scrub(k) else self.function(k)
                 for callee in sorted(self.calls.get(self.functions[k], ())):
                     visit(callee)
                 order.append(k)
 
         for name in self.header.functions:
-            self.exports[name] = self.wrapped(self.exports[name])
+            self.exports[name] = self.wrapped_callee(self.exports[name])
             visit(self.exports[name])
         names = [self.c_name(k) for k in order]
         refuse_unless(len({*names}) == len(names), "two functions whose names are one in C")
-        return [texts[k] or self.wiping(k) for k in order]
+        return [texts[k] or self.stack_wiping_function(k) for k in order]
 
-    def struct(self, type_, name, is_const):
+    def struct_conversions(self, type_, name, is_const):
         """The statements that convert a structure of the header for the module, before and after a call."""
         place, before, after = 0, [], []
         for each, field in self.header.structs[type_]:
             bits = int(re.fullmatch(r"uint(8|32|64)_t", each)[1])
-            self.needs(f"store{bits}"), self.needs(f"load{bits}")
+            self.require_part(f"store{bits}"), self.require_part(f"load{bits}")
             refuse_unless(place % (bits // 8) == 0, f"{type_} with a gap")
             words = {"name": name, "field": field, "bits": bits, "place": place}
             before.append(self.language.field_before.format(**words))
@@ -264,19 +264,19 @@ class Program:
             family = "BLAKE2B" if "blake2b" in name else "BLAKE2S"
             part = re.search("(update_)?many$", name)[0]
             ready = self.c_name(self.exports[name.replace(part, "digest_size")])
-            self.needs("pairs"), self.needs("load64"), self.needs("store64")
+            self.require_part("pairs"), self.require_part("load64"), self.require_part("store64")
             return self.parts.fill(part, HEAD=head, INNER=inner, FAMILY=family, READY=ready)
         words, lines, after = [], [], []
         for const, type_, star, each in parameters:
             is_struct = type_ in self.header.structs
             if is_struct and not type_.endswith("_state"):
-                before, more = self.struct(type_, each, const)
+                before, more = self.struct_conversions(type_, each, const)
                 lines += before
                 after += more
                 words.append(self.language.address.format(each))
             else:
-                words.append(self.language.passed((const, type_, star, each), is_struct))
-        lines += self.language.last_lines(f"{inner}({', '.join(words)})", result, after)
+                words.append(self.language.argument_of_parameter((const, type_, star, each), is_struct))
+        lines += self.language.lines_of_call_and_return(f"{inner}({', '.join(words)})", result, after)
         return f"{head}\n" + "\n".join(f"    {line}" for line in lines) + "\n}"
 
     def __str__(self):
@@ -286,7 +286,7 @@ class Program:
         return "\n\n".join(parts + functions + exported) + "\n"
 
 
-def exports_of(module):
+def exported_functions(module):
     """The exported functions of a module by name, if its sections are known here: no import, table, start or data."""
     number = rb"\x42[\x80-\xff]*[\0-\x7f]\x0b"
     known = {6: rb"\x03(\x7e\x01" + number + rb")(\x7f\x01\x41\0\x0b)(\x7e\0" + number + rb")",
@@ -294,9 +294,9 @@ def exports_of(module):
     for id_, content in module.sections.items():
         refuse_unless(id_ in (1, 3, 5, 6, 7, 10, 11), f"a section {id_}")
         refuse_unless(id_ not in known or re.fullmatch(known[id_], content.data), "other globals, or data")
-    exports, content = {}, module.sections.get(7, Reader(b"\0"))
-    for _ in range(content.number()):
-        name, kind, k = content.take(content.number()).decode(), content.byte(), content.number()
+    exports, content = {}, module.sections.get(7, ModuleReader(b"\0"))
+    for _ in range(content.read_leb128()):
+        name, kind, k = content.read_bytes(content.read_leb128()).decode(), content.read_byte(), content.read_leb128()
         refuse_unless(kind == 0 or name in ("memory", "__heap_base"), f"the export {name}")
         exports.update({name: k} if kind == 0 else {})
     return exports
@@ -313,7 +313,7 @@ def main(program=Program):
         header = file.read()
     try:
         print(program(data, header), end="")
-    except (Refused, CannotRead) as why:
+    except (UntranslatableModule, UnreadableModule) as why:
         sys.exit(f"{name}: {sys.argv[1]} has what is not translated: {why}")
 
 

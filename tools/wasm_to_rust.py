@@ -9,8 +9,8 @@ The functions of the header become functions that only other modules of the crat
 import re
 
 import wasm_to_c
-from wasm_to_c import filled
-from wasm_values import BITS, Branch, Mark, literal
+from wasm_to_c import wrapped_first_lines
+from wasm_values import BITS, BranchStatement, BlockMark, untyped_literal
 
 METHODS = {"+": "plus", "-": "minus", "*": "times"}
 # The types of the header in the crate.
@@ -19,7 +19,7 @@ TYPES = {"size_t": "usize", "uint64_t": "u64", "uint32_t": "u32", "int32_t": "i3
 WITH_STD = "vulfsjor_limits", "vulfsjor_plan", "vulfsjor_part"  # structs that the crate has only with std
 
 
-class Rust(wasm_to_c.C):
+class RustWriter(wasm_to_c.CWriter):
     """How a function is written in Rust."""
 
     number, cast, opposite = "{text}_u{bits}", "({text} as u{bits})", "(!{text})"
@@ -32,16 +32,16 @@ class Rust(wasm_to_c.C):
 
     def argument(self, type_, value):
         has_type = value.type == type_ or value.number is not None
-        return value.plain() if has_type else f"{value.text} as {self.type(type_)}"
+        return value.expression_of_known_type() if has_type else f"{value.text} as {self.type(type_)}"
 
-    def choice(self, c, a, b):
+    def conditional_expression(self, c, a, b):
         return f"(if {self.condition(c)} {{ {a} }} else {{ {b} }})"
 
-    def operation(self, a, operator, b):
+    def binary_expression(self, a, operator, b):
         """Sums, differences and products may be too long for their type."""
         if operator in METHODS:
-            return f"{a.text}.{METHODS[operator]}({b.plain()})"
-        return super().operation(a, operator, b)
+            return f"{a.text}.{METHODS[operator]}({b.expression_of_known_type()})"
+        return super().binary_expression(a, operator, b)
 
     def condition(self, c):
         return c.condition or f"{c.text} != 0"
@@ -49,20 +49,20 @@ class Rust(wasm_to_c.C):
     def head(self, name, c_name, function):
         words = ", ".join(f"mut v{k}: {self.type(type_)}" for k, type_ in enumerate(function.parameters))
         result = "".join(f" -> {self.type(type_)}" for type_ in function.results)
-        return f"// {name}\n#[inline(never)]\n" + filled(f"unsafe fn {c_name}({words}){result} {{")
+        return f"// {name}\n#[inline(never)]\n" + wrapped_first_lines(f"unsafe fn {c_name}({words}){result} {{")
 
     def declarations(self, variables):
         return [f"let mut {name}: {self.type(type_)}{' = 0' * is_zero};" for name, type_, is_zero in variables]
 
     def statements(self, lines):
-        used = {text.block for _, text in lines if isinstance(text, Branch)}
+        used = {text.block for _, text in lines if isinstance(text, BranchStatement)}
         texts = []
         for sets, text in lines:
-            if isinstance(text, Branch):
+            if isinstance(text, BranchStatement):
                 word = "continue" if text.block and text.block.is_loop else "break"
                 where = f"{word} '{text.block.label};" if text.block else "return;"
                 texts.append(f"if {text.condition} {{ {where} }}" if text.condition else where)
-            elif isinstance(text, Mark):
+            elif isinstance(text, BlockMark):
                 end = f"break '{text.block.label}; }}" if text.is_reached else "}"
                 texts += [f"'{text.block.label}: loop {{" if text.is_begin else end] * (text.block in used)
             elif sets:
@@ -76,16 +76,16 @@ class Rust(wasm_to_c.C):
         own = name + "<S>" * any(type_.endswith("_state") for type_ in types)
         given = ", ".join(f"{each}: {rust_type(*words, each)}" for *words, each in parameters)
         answer = "" if result == "void" else f" -> {TYPES[result]}"
-        return "#[cfg(feature = \"std\")]\n" * bool(types & {*WITH_STD}) + filled(
+        return "#[cfg(feature = \"std\")]\n" * bool(types & {*WITH_STD}) + wrapped_first_lines(
             f"pub(crate) unsafe fn {own}({given}){answer} {{")
 
-    def passed(self, parameter, is_struct):
+    def argument_of_parameter(self, parameter, is_struct):
         const, type_, star, each = parameter
         if star and is_struct:
             return f"{each} as *{'const' if const else 'mut'} _ as u64"
         return f"{each} as u64" if star or type_ == "size_t" else each
 
-    def last_lines(self, call, result, after):
+    def lines_of_call_and_return(self, call, result, after):
         if after:
             return [f"if {call} != 0 {{ return -1; }}", *after, "0"]
         return [call + (f" as {TYPES[result]}" if result in ("int32_t", "size_t") else ";" * (result == "void"))]
@@ -94,10 +94,11 @@ class Rust(wasm_to_c.C):
 class Program(wasm_to_c.Program):
     """The module of Rust."""
 
-    language, parts_file = Rust(), "wasm_to_rust.rs"
+    language, parts_file = RustWriter(), "wasm_to_rust.rs"
 
-    def wiping(self, k):
-        return self.parts.fill("scrub", NAME=self.c_name(k), WORDS=(self.scrubbed(k) + wasm_to_c.MARGIN) // 8)
+    def stack_wiping_function(self, k):
+        return self.parts.fill("scrub", NAME=self.c_name(k),
+                               WORDS=(self.bytes_overwritten_by_scrub(k) + wasm_to_c.MARGIN) // 8)
 
 
 def rust_type(const, type_, star, name):

@@ -3,22 +3,22 @@
 BITS = {"i32": 32, "i64": 64}
 
 
-class Refused(Exception):
+class UntranslatableModule(Exception):
     """The module has something that is not known here."""
 
 
 def refuse_unless(condition, why):
     """Ends the translation."""
     if not condition:
-        raise Refused(why)
+        raise UntranslatableModule(why)
 
 
-def literal(n):
+def untyped_literal(n):
     """A number without a type."""
     return str(n) if n < 1 << 15 else hex(n)
 
 
-def bare(text):
+def without_outer_parentheses(text):
     """An expression without parentheses around all of it."""
     depth = 0
     for k, character in enumerate(text):
@@ -28,7 +28,7 @@ def bare(text):
     raise AssertionError(text)
 
 
-class Value:
+class OperandValue:
     """An operand: its type and its expression, and what is known of it: the variables that it reads, whether it reads
     memory, a number if it is one, its condition if it is the result of a comparison, its operator if it has one, what
     is shifted right and by how many bits, and its place if it is an address on the stack: what that is counted from,
@@ -40,30 +40,30 @@ class Value:
         self.reads = {*reads}.union(*(value.reads for value in of))
         self.loads = loads or any(value.loads for value in of)
 
-    def plain(self):
+    def expression_of_known_type(self):
         """Its expression where its type is known."""
-        return bare(self.text) if self.number is None else literal(self.number)
+        return without_outer_parentheses(self.text) if self.number is None else untyped_literal(self.number)
 
-    def before(self, operator):
+    def expression_before_operator(self, operator):
         """Its expression before an operator and another operand that is not a number: a + b in a + b - c."""
         is_one_of_a_row = self.operator and (self.operator == operator or self.operator + operator in ("+-", "-+"))
-        return self.plain() if is_one_of_a_row else self.text
+        return self.expression_of_known_type() if is_one_of_a_row else self.text
 
-    def beside(self, other):
+    def expression_beside_operand(self, other):
         """Its expression next to another operand, whose type it gets if it is a number and the other is not."""
-        return self.text if other.number is not None else self.typeless()
+        return self.text if other.number is not None else self.expression_without_type()
 
-    def typeless(self):
+    def expression_without_type(self):
         """Its expression where another operand has its type."""
-        return self.text if self.number is None else literal(self.number)
+        return self.text if self.number is None else untyped_literal(self.number)
 
-    def signed(self):
+    def signed_number(self):
         """Its number, from -2^63 on."""
         w = BITS[self.type]
         return self.number - (self.number >> w - 1 << w)
 
 
-class Block:
+class OpenBlock:
     """A block or a loop that is open: its label, the operands below it, and the places of locals where its label is,
     if anything has gone there."""
 
@@ -71,21 +71,21 @@ class Block:
         self.is_loop, self.label, self.height, self.places = is_loop, label, height, places
 
 
-class Branch:
+class BranchStatement:
     """A branch to a block, or to the end of the function, with a condition or without."""
 
     def __init__(self, block, condition=""):
         self.block, self.condition = block, condition
 
 
-class Mark:
+class BlockMark:
     """The begin or the end of a block, and whether that is reached."""
 
     def __init__(self, block, is_begin, is_reached=True):
         self.block, self.is_begin, self.is_reached = block, is_begin, is_reached
 
 
-class Write:
+class MemoryWrite:
     """A statement that writes a number to memory, or zeros: the address, the number and how many bytes of it; what the
     address is counted from, and how many bytes; the text of the number of which it is a part, and how many bits that is
     shifted by, or None if memory is read; and the statements that it is made of."""
@@ -99,7 +99,7 @@ class Write:
         last = f", {self.size}" if self.function == "fill" else ""
         return f"{self.function}({self.address}, {self.argument}{last})"
 
-    def joined(self, other):
+    def combined_with(self, other):
         """What writes what this and another after it do, if their places touch and they write zeros, or parts of a
         number that touch there too. Nothing for others."""
         low, high = sorted((self, other), key=lambda write: write.place)
@@ -108,7 +108,7 @@ class Write:
             return None
         if not low.argument == high.argument == "0" and high.part != (low.part[0], low.part[1] + bits):
             return None
-        return Write(low.address, low.argument, low.size + high.size, low.place, low.part, self.of + other.of)
+        return MemoryWrite(low.address, low.argument, low.size + high.size, low.place, low.part, self.of + other.of)
 
     def statements(self):
         """This, if there is such a statement, or those that it is made of."""

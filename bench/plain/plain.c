@@ -32,21 +32,21 @@ static const uint8_t SIGMA[10][16] = {
     {10, 2, 8, 4, 7, 6, 1, 5, 15, 11, 9, 14, 3, 12, 13, 0},
 };
 
-static inline word rotated(word x, int n)
+static inline word rotate_right(word x, int n)
 {
     return x >> n | x << (BITS - n);
 }
 
-static inline void mix(word *v, int a, int b, int c, int d, word x, word y)
+static inline void mix_quarter(word *v, int a, int b, int c, int d, word x, word y)
 {
     v[a] += v[b] + x;
-    v[d] = rotated(v[d] ^ v[a], R1);
+    v[d] = rotate_right(v[d] ^ v[a], R1);
     v[c] += v[d];
-    v[b] = rotated(v[b] ^ v[c], R2);
+    v[b] = rotate_right(v[b] ^ v[c], R2);
     v[a] += v[b] + y;
-    v[d] = rotated(v[d] ^ v[a], R3);
+    v[d] = rotate_right(v[d] ^ v[a], R3);
     v[c] += v[d];
-    v[b] = rotated(v[b] ^ v[c], R4);
+    v[b] = rotate_right(v[b] ^ v[c], R4);
 }
 
 static void compress(word *h, const uint8_t *block, uint64_t count, int last)
@@ -61,14 +61,14 @@ static void compress(word *h, const uint8_t *block, uint64_t count, int last)
 #pragma GCC unroll 12
     for (int round = 0; round < ROUNDS; round++) {
         const uint8_t *s = SIGMA[round % 10];
-        mix(v, 0, 4, 8, 12, m[s[0]], m[s[1]]);
-        mix(v, 1, 5, 9, 13, m[s[2]], m[s[3]]);
-        mix(v, 2, 6, 10, 14, m[s[4]], m[s[5]]);
-        mix(v, 3, 7, 11, 15, m[s[6]], m[s[7]]);
-        mix(v, 0, 5, 10, 15, m[s[8]], m[s[9]]);
-        mix(v, 1, 6, 11, 12, m[s[10]], m[s[11]]);
-        mix(v, 2, 7, 8, 13, m[s[12]], m[s[13]]);
-        mix(v, 3, 4, 9, 14, m[s[14]], m[s[15]]);
+        mix_quarter(v, 0, 4, 8, 12, m[s[0]], m[s[1]]);
+        mix_quarter(v, 1, 5, 9, 13, m[s[2]], m[s[3]]);
+        mix_quarter(v, 2, 6, 10, 14, m[s[4]], m[s[5]]);
+        mix_quarter(v, 3, 7, 11, 15, m[s[6]], m[s[7]]);
+        mix_quarter(v, 0, 5, 10, 15, m[s[8]], m[s[9]]);
+        mix_quarter(v, 1, 6, 11, 12, m[s[10]], m[s[11]]);
+        mix_quarter(v, 2, 7, 8, 13, m[s[12]], m[s[13]]);
+        mix_quarter(v, 3, 4, 9, 14, m[s[14]], m[s[15]]);
     }
     for (int i = 0; i < 8; i++)
         h[i] ^= v[i] ^ v[i + 8];

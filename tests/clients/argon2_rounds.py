@@ -8,7 +8,7 @@ import random
 import sys
 
 
-def hashes(library, arguments):
+def raw_hash_or_error(library, arguments):
     """The raw hash, or the error."""
     kind, passes, memory, lanes, password, salt, size = arguments
     out = ctypes.create_string_buffer(size)
@@ -25,10 +25,10 @@ def main():
         lanes = rng.randint(1, 4)
         arguments = (turn % 3, rng.randint(1, 3), rng.randint(8 * lanes, 80), lanes, rng.randbytes(rng.randint(0, 200)),
                      rng.randbytes(rng.randint(8, 80)), rng.choice((4, 31, 32, 63, 64, 65, 96, 127, 128, 129, 1000)))
-        status, out = hashes(theirs, arguments)
+        status, out = raw_hash_or_error(theirs, arguments)
         if status:
             sys.exit(f"Argon2 returned {status} for {arguments}")
-        is_same = hashes(ours, arguments) == (0, out)
+        is_same = raw_hash_or_error(ours, arguments) == (0, out)
         same, wrong = same + is_same, wrong + (not is_same)
     print(f"{same} the same, {wrong} different")
 

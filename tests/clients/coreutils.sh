@@ -5,7 +5,7 @@ source "$(dirname "$(readlink -f "$0")")/common.sh"
 
 # One of coreutils' tests, with this program as its b2sum, in the environment that its Makefile makes: PROGRAM TEST
 # BUILT PROGRAMS..
-run_test() {
+run_coreutils_test() {
     local source=$fetched/coreutils build=$work/coreutils version=9.1
     rm -rf "$build" && mkdir -p "$build"/{src,tmp} && cp "$1" "$build/src/b2sum" && touch "$build/config.h" &&
         cd "$build" || return
@@ -21,21 +21,22 @@ run_test() {
     esac </dev/null 9>&2
 }
 # Whether the test fails, and is not skipped, which is status 77.
-fails() { run_test "$@"; [ $? -eq 1 ]; }
+coreutils_test_fails() { run_coreutils_test "$@"; [ $? -eq 1 ]; }
 
 test_coreutils() {
     local name sums=(b2sum cksum md5sum sum sha{1,224,256,384,512}sum)
-    missing= && check "b2sum" assemble_all b2sum && check "a planted byte" plant "$work/b2sum" "$work/planted"
+    missing= && check "b2sum" assemble_all b2sum &&
+        check "a planted byte" copy_with_wrong_iv_bit "$work/b2sum" "$work/planted"
     needs_sources coreutils
     [[ $(cksum --version 2>&1) == "cksum (GNU coreutils) 9.1"* ]] || missing="no cksum of coreutils 9.1"
     for name in b2sum.sh cksum-a.sh; do
-        check "coreutils' $name" run_test "$work/b2sum" $name "${sums[@]}"
-        check "coreutils' $name with a planted byte" fails "$work/planted" $name "${sums[@]}"
+        check "coreutils' $name" run_coreutils_test "$work/b2sum" $name "${sums[@]}"
+        check "coreutils' $name with a planted byte" coreutils_test_fails "$work/planted" $name "${sums[@]}"
     done
     for name in help-version.sh invalid-opt.pl; do
-        check "coreutils' $name" run_test "$work/b2sum" $name b2sum
-        check "coreutils' $name without a program" fails "$(command -v false)" $name b2sum
+        check "coreutils' $name" run_coreutils_test "$work/b2sum" $name b2sum
+        check "coreutils' $name without a program" coreutils_test_fails "$(command -v false)" $name b2sum
     done
 }
 
-part test_coreutils
+run_part_of_tests test_coreutils

@@ -17,7 +17,7 @@ build_libarchive() {
 configured=(-DHAVE_CONFIG_H '-DPLATFORM_CONFIG_H="config.h"' -I.)
 
 # The tests: ARCHIVE
-rar5_tests() {
+rar5_tests_pass() {
     local source=$fetched/libarchive tests=$fetched/libarchive/libarchive/test
     cd "$work/libarchive" &&
         cc -O0 -w "${configured[@]}" -I"$source"/{test_utils,libarchive} -I"$tests" "$source"/test_utils/test_*.c \
@@ -25,17 +25,18 @@ rar5_tests() {
         TMPDIR=$work ./tests -q -r "$tests"
 }
 # One of them fails: ARCHIVE
-one_fails() {
-    ! rar5_tests "$1" >"$work/said" && grep -x 'Running \.*E\.*' "$work/said" &&
+one_rar5_test_fails() {
+    ! rar5_tests_pass "$1" >"$work/said" && grep -x 'Running \.*E\.*' "$work/said" &&
         grep 'test_read_format_rar5_blake2 (2 failures)' "$work/said"
 }
 
 test_libarchive() {
-    check "a planted byte" plant "$archive" "$work/planted.a"
+    check "a planted byte" copy_with_wrong_iv_bit "$archive" "$work/planted.a"
     needs_sources libarchive
     check "libarchive" build_libarchive
-    check "libarchive's tests of RAR5" says 1 '48 tests passed, no failures' rar5_tests "$archive"
-    check "libarchive's tests of RAR5 with a planted byte" one_fails "$work/planted.a"
+    check "libarchive's tests of RAR5" command_prints_line_times 1 '48 tests passed, no failures' rar5_tests_pass \
+        "$archive"
+    check "libarchive's tests of RAR5 with a planted byte" one_rar5_test_fails "$work/planted.a"
 }
 
-part test_libarchive
+run_part_of_tests test_libarchive

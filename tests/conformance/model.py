@@ -11,15 +11,16 @@ import sys
 from typing import Optional
 
 sys.path.insert(0, os.path.join(os.path.dirname(os.path.abspath(__file__)), ".."))
-from b2_model import Input, Place, output, unknown_length  # noqa: E402
-from oracle import SCALAR, parallel_by_hashlib, parallel_digest, range_digests, root_of_leaves, tree_root  # noqa: E402
+from b2_model import Input, Place, output, unknown_length_of_output  # noqa: E402
+from oracle import (  # noqa: E402
+    SCALAR, parallel_digest_by_hashlib, parallel_digest, digests_of_leaf_range, root_of_leaves, tree_root)
 from common import FAMILIES  # noqa: E402
-from saved import Run, begun, loaded  # noqa: E402
+from saved import SavedState, state_with_counter, state_from_bytes  # noqa: E402
 
 HASHES = ("blake2b", "blake2s", "blake2bp", "blake2sp", "blake2xb", "blake2xs", "tree")
 NODE = {"fanout": "fanout", "depth": "depth", "leaf": "leaf_size", "offset": "node_offset", "node": "node_depth",
         "inner": "inner_size", "last": "last_node"}
-UNKNOWN = {letter: unknown_length(family) for letter, family in SCALAR.items()}
+UNKNOWN = {letter: unknown_length_of_output(family) for letter, family in SCALAR.items()}
 
 
 class Refused(Exception):
@@ -30,39 +31,39 @@ FIRST = bytes((i + (i >> 8)) & 255 for i in range(1 << 16))  # the first 65,536 
 
 
 @functools.cache
-def message_part(k):
+def sample_message_chunk(k):
     """The bytes of the endless message from place 65,536 k on, as many: each such part is the one before it, and 1."""
     return FIRST.translate(bytes((i + k) & 255 for i in range(256)))
 
 
-def message_span(start, end):
+def sample_message_slice(start, end):
     """The bytes of the endless message from one place to another."""
     first = start >> 16
     if end >> 16 == first:
-        return message_part(first)[start & 0xffff:end & 0xffff]
-    return b"".join(map(message_part, range(first, (end >> 16) + 1)))[start & 0xffff:end - (first << 16)]
+        return sample_message_chunk(first)[start & 0xffff:end & 0xffff]
+    return b"".join(map(sample_message_chunk, range(first, (end >> 16) + 1)))[start & 0xffff:end - (first << 16)]
 
 
 @functools.lru_cache(4096)
-def read_bytes(word):
+def parse_bytes(word):
     """BYTES, or None for `none`."""
     if word == "none":
         return None
     if ":" in word:
-        return message_span(*map(int, word.split(":")))
+        return sample_message_slice(*map(int, word.split(":")))
     return b"" if word == "-" else bytes.fromhex(word)
 
 
-def family_of(name):
+def hash_letter_of_name(name):
     """The letter of the hash that a hash is made of."""
     return "s" if "s" in name.removeprefix("blake2") else "b"
 
 
-def argument_limits(name):
+def argument_ranges(name):
     """The least and the most of each argument of a hash: of numbers, and of the lengths of bytes."""
-    family = FAMILIES[family_of(name)]
-    is_s = family_of(name) == "s"
-    found = {"size": (1, UNKNOWN[family_of(name)] if "x" in name else family.key), "key": (0, family.key),
+    family = FAMILIES[hash_letter_of_name(name)]
+    is_s = hash_letter_of_name(name) == "s"
+    found = {"size": (1, UNKNOWN[hash_letter_of_name(name)] if "x" in name else family.key), "key": (0, family.key),
              "salt": (0, family.salt), "person": (0, family.salt)}
     if name == "tree":
         del found["key"]
@@ -73,9 +74,9 @@ def argument_limits(name):
     return found
 
 
-def read_given(name, words):
+def parse_arguments(name, words):
     """The arguments of a hash, or Refused by all that are wrong."""
-    allowed, given, wrong = argument_limits(name), {}, []
+    allowed, given, wrong = argument_ranges(name), {}, []
     assert set(words) <= set(allowed), words
     for argument, (least, most) in allowed.items():
         word = words.get(argument)
@@ -85,7 +86,7 @@ def read_given(name, words):
         if word == "none":
             wrong.append(argument)
         elif is_text:
-            given[argument] = read_bytes(word)
+            given[argument] = parse_bytes(word)
             wrong += [argument] * (not max(least, argument == "key") <= len(given[argument]) <= most)
         else:
             given[argument] = most if word == "unknown" else int(word)
@@ -99,16 +100,16 @@ def read_given(name, words):
 @functools.lru_cache(100000)
 def digest(name, message, items, last):
     given = dict(items)
-    longest = FAMILIES[family_of(name)].key
+    longest = FAMILIES[hash_letter_of_name(name)].key
     size, texts = given.get("size", longest), {each: given[each] for each in ("salt", "person") if each in given}
     if name == "tree":
         return tree_root(message, given["leaf"], size, **texts)
     if name[-1] == "p":
         if size == longest and not given.get("key"):
-            return parallel_by_hashlib(family_of(name), message, **texts)
-        return parallel_digest(family_of(name), message, size, given.get("key", b""), **texts)
+            return parallel_digest_by_hashlib(hash_letter_of_name(name), message, **texts)
+        return parallel_digest(hash_letter_of_name(name), message, size, given.get("key", b""), **texts)
     node = {word: given[each] for each, word in NODE.items() if each in given}
-    return FAMILIES[family_of(name)].function(message, digest_size=size, key=given.get("key", b""), **texts,
+    return FAMILIES[hash_letter_of_name(name)].function(message, digest_size=size, key=given.get("key", b""), **texts,
                                               **node | {"last_node": bool(last)}).digest()
 
 
@@ -122,7 +123,7 @@ class State:
     last: int = 0
     place: Optional[int] = None
     skipped: int = 0
-    base: Optional[Run] = None
+    base: Optional[SavedState] = None
 
     def count(self):
         return (self.base.count() if self.base else self.skipped) + len(self.message)
@@ -131,12 +132,12 @@ class State:
         """Of BLAKE2b or BLAKE2s, by the model."""
         base = self.base
         if not base:
-            family = SCALAR[family_of(self.name)]
+            family = SCALAR[hash_letter_of_name(self.name)]
             place = Place(*(self.given.get(each, otherwise) for each, otherwise in zip(NODE, (1, 1, 0, 0, 0, 0))))
             texts = (self.given.get(each, b"") for each in ("salt", "person"))
             whole = Input(b"", self.given.get("key"), *texts, place=place)
-            base = begun(family, self.given.get("size", family.digest), whole, self.skipped)
-        return base._replace(last=self.last).absorbed(self.message)
+            base = state_with_counter(family, self.given.get("size", family.digest), whole, self.skipped)
+        return base._replace(last=self.last).after_message(self.message)
 
     def digest(self):
         if self.skipped or self.base:
@@ -144,7 +145,7 @@ class State:
         return digest(self.name, self.message, tuple(self.given.items()), self.last)
 
     def length(self):
-        letter = family_of(self.name)
+        letter = hash_letter_of_name(self.name)
         known = self.given.get("size", UNKNOWN[letter])
         return FAMILIES[letter].key << 32 if known == UNKNOWN[letter] else known
 
@@ -152,14 +153,14 @@ class State:
         return self.length() - (self.place or 0)
 
     def read(self, count):
-        start, letter = self.place or 0, family_of(self.name)
+        start, letter = self.place or 0, hash_letter_of_name(self.name)
         self.place = start + count
         given = Input(self.message, *(self.given.get(each, b"") for each in ("key", "salt", "person")))
         length = self.given.get("size", UNKNOWN[letter])
         return output(SCALAR[letter], self.place, given._replace(key=given.key or None), xof_length=length)[start:]
 
 
-def yes_or_no(condition):
+def yes_or_no_word(condition):
     return "yes" if condition else "no"
 
 
@@ -192,23 +193,23 @@ class Model:
         return state
 
     @staticmethod
-    def some(word, argument="message"):
-        if read_bytes(word) is None:
+    def bytes_or_refuse(word, argument="message"):
+        if parse_bytes(word) is None:
             raise Refused(argument)
-        return read_bytes(word)
+        return parse_bytes(word)
 
     # ---- calls of a state
 
     def new(self, slot, name, **words):
         self.slots[slot] = None
-        given = read_given(name, words)
+        given = parse_arguments(name, words)
         self.slots[slot] = State(name, given, last=given.get("last", 0))
 
     def update(self, slot, message):
         state = self.state(slot)
         if state.place is not None:
             raise Refused("state")
-        added, block = self.some(message), SCALAR[family_of(state.name)].block
+        added, block = self.bytes_or_refuse(message), SCALAR[hash_letter_of_name(state.name)].block
         if state.count() + len(added) + block * ("key" in state.given) >= 2**64:
             raise Refused("message")
         state.message += added
@@ -226,7 +227,7 @@ class Model:
 
     def skip(self, slot, count):
         state = self.state(slot)
-        assert not state.message and int(count) % SCALAR[family_of(state.name)].block == 0
+        assert not state.message and int(count) % SCALAR[hash_letter_of_name(state.name)].block == 0
         state.skipped = int(count)
 
     def copy(self, slot, other):
@@ -235,7 +236,7 @@ class Model:
     def reset(self, slot):
         state = self.state(slot)
         state.message, state.place, state.skipped = b"", None, 0
-        state.base = state.base and state.base.restarted()
+        state.base = state.base and state.base.after_restart()
 
     def last(self, slot, flag):
         self.state(slot).last = int(flag)
@@ -248,8 +249,8 @@ class Model:
 
     def verify(self, slot, tag):
         self.state(slot)
-        given = self.some(tag, "tag")
-        return yes_or_no(hmac.compare_digest(self.end(slot).digest(), given))
+        given = self.bytes_or_refuse(tag, "tag")
+        return yes_or_no_word(hmac.compare_digest(self.end(slot).digest(), given))
 
     def count(self, slot):
         return self.state(slot).count()
@@ -267,11 +268,11 @@ class Model:
         state = self.state(slot)
         if "key" in state.given:
             raise Refused("key")
-        return state.run().encoded()
+        return state.run().saved_bytes()
 
     def load(self, slot, name, saved):
         self.slots[slot] = None
-        run = loaded(SCALAR[family_of(name)], self.some(saved, "saved"))
+        run = state_from_bytes(SCALAR[hash_letter_of_name(name)], self.bytes_or_refuse(saved, "saved"))
         if not run:
             raise Refused("saved")
         self.slots[slot] = State(name, {}, last=run.last, base=run)
@@ -279,53 +280,53 @@ class Model:
     # ---- calls without a state
 
     def hash(self, name, message, **words):
-        given = read_given(name, words)
-        if "x" in name and given.get("size", 2**32) >= UNKNOWN[family_of(name)]:
+        given = parse_arguments(name, words)
+        if "x" in name and given.get("size", 2**32) >= UNKNOWN[hash_letter_of_name(name)]:
             raise Refused("size")
-        state = State(name, given, self.some(message), given.get("last", 0))
+        state = State(name, given, self.bytes_or_refuse(message), given.get("last", 0))
         return state.read(given["size"]) if "x" in name else state.digest()
 
     def many(self, name, *messages, **words):
         return b"".join(self.hash(name, message, **words) for message in messages) if messages else \
-            read_given(name, words) and b""
+            parse_arguments(name, words) and b""
 
     def derive(self, context, **words):
-        key = read_bytes(words.get("key", "-"))
+        key = parse_bytes(words.get("key", "-"))
         wrong = [] if key else ["key"]
         try:
-            given = read_given("blake2xb", words)
+            given = parse_arguments("blake2xb", words)
             wrong += ["size"] * (given["size"] == UNKNOWN["b"])
         except Refused as refused:
             wrong = [*wrong, *(each for each in str(refused).split(",") if each not in wrong)]
         if wrong:
             raise Refused(",".join(wrong))
-        return output(SCALAR["b"], given["size"], Input(self.some(context, "context"), key))
+        return output(SCALAR["b"], given["size"], Input(self.bytes_or_refuse(context, "context"), key))
 
     @staticmethod
     def equal(one, other):
-        return yes_or_no(read_bytes(one) == read_bytes(other))
+        return yes_or_no_word(parse_bytes(one) == parse_bytes(other))
 
     # ---- parts of a tree
 
     def leaves(self, message, first, ends, **words):
-        given = read_given("tree", words)
-        data, first, leaf = self.some(message), int(first), given.pop("leaf")
+        given = parse_arguments("tree", words)
+        data, first, leaf = self.bytes_or_refuse(message), int(first), given.pop("leaf")
         if (not data and (first or ends == "0")) or (ends == "0" and len(data) % leaf):
             raise Refused("message")
         if first * leaf + len(data) >= 2**58:
             raise Refused("first")
-        return range_digests(data, leaf, first, ends == "1", **given)
+        return digests_of_leaf_range(data, leaf, first, ends == "1", **given)
 
     def top(self, digests, **words):
-        given = read_given("tree", words)
-        data = self.some(digests, "digests")
+        given = parse_arguments("tree", words)
+        data = self.bytes_or_refuse(digests, "digests")
         if not data or len(data) % 64:
             raise Refused("digests")
         return root_of_leaves(data, given.pop("leaf"), given.pop("size", 64), **given)
 
     def next(self, slot, skip, message):
         """The digests of whole leaves, which others follow."""
-        state, data, skip = self.state(slot), self.some(message), int(skip)
+        state, data, skip = self.state(slot), self.bytes_or_refuse(message), int(skip)
         leaf = state.given["leaf"]
         wrong = ["state"] * (len(state.message) % leaf > 0) + ["message"] * (not data or len(data) % leaf > 0)
         if wrong:
@@ -334,13 +335,13 @@ class Model:
         if first * leaf + len(data) >= 2**58:
             raise Refused("skip")
         texts = {each: state.given[each] for each in ("salt", "person") if each in state.given}
-        return range_digests(data, leaf, first, False, **texts)
+        return digests_of_leaf_range(data, leaf, first, False, **texts)
 
     def absorb(self, slot, leaves, message):
         """The digests of whole leaves, given here by the bytes of these, and then bytes of the message."""
-        state, data, leaf = self.state(slot), self.some(message), self.state(slot).given["leaf"]
+        state, data, leaf = self.state(slot), self.bytes_or_refuse(message), self.state(slot).given["leaf"]
         wrong = ["state"] * (len(state.message) % leaf > 0) + ["message"] * (not data)
-        if read_bytes(leaves) and wrong:
+        if parse_bytes(leaves) and wrong:
             raise Refused(",".join(wrong))
-        state.message += read_bytes(leaves) + data
+        state.message += parse_bytes(leaves) + data
 

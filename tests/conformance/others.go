@@ -40,7 +40,7 @@ func newState(name string, size int, key []byte) (made interface{}, err error) {
 }
 
 // call makes a call. A write after a read panics.
-func call(verb string, words []string) (result string, err error) {
+func callVerb(verb string, words []string) (result string, err error) {
 	defer func() {
 		if why := recover(); why != nil {
 			err = fmt.Errorf("%v", why)
@@ -83,7 +83,7 @@ func main() {
 			return
 		}
 		words := strings.Split(strings.TrimSuffix(line, "\n"), " ")
-		result, err := call(words[0], words[1:])
+		result, err := callVerb(words[0], words[1:])
 		if err != nil {
 			fmt.Println("!", err)
 		} else {

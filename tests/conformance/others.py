@@ -21,38 +21,38 @@ import shutil
 import subprocess
 import sys
 
-from model import NODE, UNKNOWN, family_of, read_bytes
+from model import NODE, UNKNOWN, hash_letter_of_name, parse_bytes
 from common import FAMILIES, KINDS, Parser
 
 HERE = os.path.dirname(os.path.abspath(__file__))
 
 
-class Absent(Exception):
+class UnsupportedCall(Exception):
     """A call that the implementation does not have, or not with these arguments."""
 
 
-class Refused(Exception):
+class RefusedCall(Exception):
     """A call that the implementation refuses."""
 
 
-class Ended(Exception):
+class EndedState(Exception):
     """A call of a state that has ended."""
 
 
-def number(word):
+def parse_number(word):
     if word in ("none", "unknown"):
-        raise Absent(word)
+        raise UnsupportedCall(word)
     return int(word)
 
 
-def digits_of(word):
+def hex_digits(word):
     """The digits of BYTES."""
     if word == "none":
-        raise Absent("null")
-    return read_bytes(word).hex()
+        raise UnsupportedCall("null")
+    return parse_bytes(word).hex()
 
 
-class Driver:
+class ImplementationDriver:
     """States by their slots. No call ends them: they are forgotten."""
 
     def __init__(self, name):
@@ -61,52 +61,52 @@ class Driver:
     def wipe(self, slot):
         self.states[slot] = None
 
-    def of(self, slot):
+    def live_state(self, slot):
         if self.states.get(slot) is None:
-            raise Ended
+            raise EndedState
         return self.states[slot]
 
     def new(self, slot, _, **words):
         self.states[slot] = None
-        self.states[slot] = self.made(words)
+        self.states[slot] = self.new_hash_state(words)
 
     def digest(self, slot):
-        value = self.final(self.of(slot))
+        value = self.final(self.live_state(slot))
         self.states[slot] = None
         return value
 
 
-class Hashlib(Driver):
+class Hashlib(ImplementationDriver):
     hashes = ("blake2b", "blake2s")
 
-    def made(self, words, message=b""):
+    def new_hash_state(self, words, message=b""):
         if words.get("key") == "-":
-            raise Absent("an empty key, which is none")
+            raise UnsupportedCall("an empty key, which is none")
         names = {"size": "digest_size", **NODE}
-        given = {names.get(word, word): read_bytes(value) if word in ("key", "salt", "person") else number(value)
+        given = {names.get(word, word): parse_bytes(value) if word in ("key", "salt", "person") else parse_number(value)
                  for word, value in words.items()}
         try:
             return getattr(hashlib, self.name)(message, **given)
         except (ValueError, OverflowError, TypeError) as error:
-            raise Refused from error
+            raise RefusedCall from error
 
     def update(self, slot, message):
         try:
-            self.of(slot).update(read_bytes(message))
+            self.live_state(slot).update(parse_bytes(message))
         except TypeError as error:
-            raise Refused from error
+            raise RefusedCall from error
 
     def copy(self, slot, other):
-        self.states[other] = self.of(slot).copy()
+        self.states[other] = self.live_state(slot).copy()
 
     def final(self, state):
         return state.hexdigest()
 
     def hash(self, _, message, **words):
-        return self.made(words, read_bytes(message)).hexdigest()
+        return self.new_hash_state(words, parse_bytes(message)).hexdigest()
 
 
-def new_state(data=b""):
+def aligned_libb2_state(data=b""):
     """Room for a state of libb2, at a multiple of 64."""
     room = ctypes.create_string_buffer((1 << 14) + 64)
     state = (ctypes.c_char * (1 << 14)).from_buffer(room, -ctypes.addressof(room) % 64)
@@ -114,7 +114,7 @@ def new_state(data=b""):
     return state
 
 
-class Libb2(Driver):
+class Libb2(ImplementationDriver):
     """The four sequential and parallel functions of libb2. A state has its length of the digest with it."""
 
     hashes = ("blake2b", "blake2s", "blake2bp", "blake2sp")
@@ -127,56 +127,56 @@ class Libb2(Driver):
     def call(self, name, *given):
         given = (ctypes.c_size_t(it) if isinstance(it, int) else it for it in given)
         if getattr(self.library, self.name + name)(*given):
-            raise Refused
+            raise RefusedCall
 
     @staticmethod
     def text(word):
-        data = read_bytes(word)
+        data = parse_bytes(word)
         if data is None:
-            raise Absent("null pointers, at which it may end the program")
+            raise UnsupportedCall("null pointers, at which it may end the program")
         return data, len(data)
 
-    def made(self, words):
-        size, state = number(words.pop("size", str(self.most))), new_state()
+    def new_hash_state(self, words):
+        size, state = parse_number(words.pop("size", str(self.most))), aligned_libb2_state()
         if not -1 < size < 1 << 64:
-            raise Absent("no number of C")
+            raise UnsupportedCall("no number of C")
         key = words.pop("key", None)
         if key is None and words:
-            self.call("_init_param", state, self.parameters(size, words))
+            self.call("_init_param", state, self.parameter_block(size, words))
         elif words:
-            raise Absent("a key with other parameters")
+            raise UnsupportedCall("a key with other parameters")
         elif key is None:
             self.call("_init", state, size)
         else:
             self.call("_init_key", state, size, *self.text(key))
         return state, size
 
-    def parameters(self, size, words):
+    def parameter_block(self, size, words):
         """A parameter block, which the caller makes."""
-        texts = {name: read_bytes(words.pop(name, "-")) for name in ("salt", "person")}
+        texts = {name: parse_bytes(words.pop(name, "-")) for name in ("salt", "person")}
         named = {"fanout": 1, "depth": 1, "leaf": 0, "offset": 0, "node": 0, "inner": 0, "last": 0}
-        named |= {name: number(word) for name, word in words.items()}
+        named |= {name: parse_number(word) for name, word in words.items()}
         widths = {"fanout": 1, "depth": 1, "leaf": 4, "offset": 8 if self.most == 64 else 6, "node": 1, "inner": 1}
         if "p" in self.name or named["last"] or any(text is None or len(text) > self.salt for text in texts.values()):
-            raise Absent("no field of the parameter block")
+            raise UnsupportedCall("no field of the parameter block")
         try:
             block = bytes([size, 0]) + b"".join(
                 named[name].to_bytes(width, "little") for name, width in widths.items())
         except (OverflowError, ValueError) as error:
-            raise Absent("no field of the parameter block") from error
+            raise UnsupportedCall("no field of the parameter block") from error
         return block.ljust(2 * self.salt, b"\0") + b"".join(text.ljust(self.salt, b"\0") for text in texts.values())
 
     def update(self, slot, message):
-        self.call("_update", self.of(slot)[0], *self.text(message))
+        self.call("_update", self.live_state(slot)[0], *self.text(message))
 
     def skip(self, slot, count):
         """A state has two words of counter behind its eight chaining words."""
-        state, width = self.of(slot)[0], self.most // 8
+        state, width = self.live_state(slot)[0], self.most // 8
         state[8 * width:10 * width] = int(count).to_bytes(2 * width, "little")
 
     def copy(self, slot, other):
-        state, size = self.of(slot)
-        self.states[other] = new_state(state.raw), size
+        state, size = self.live_state(slot)
+        self.states[other] = aligned_libb2_state(state.raw), size
 
     def final(self, made):
         out = ctypes.create_string_buffer(made[1])
@@ -184,18 +184,18 @@ class Libb2(Driver):
         return out.raw.hex()
 
     def hash(self, _, message, **words):
-        size, key = number(words.pop("size", str(self.most))), words.pop("key", None)
+        size, key = parse_number(words.pop("size", str(self.most))), words.pop("key", None)
         if words or not -1 < size < 1 << 32:
-            raise Absent("salts and tree parameters")
+            raise UnsupportedCall("salts and tree parameters")
         if key == "-":
-            raise Absent("an empty key, which is none in one call")
+            raise UnsupportedCall("an empty key, which is none in one call")
         out = ctypes.create_string_buffer(max(size, 1))
         (data, length), (key, key_length) = self.text(message), (None, 0) if key is None else self.text(key)
         self.call("", out, data, key, size, length, key_length)
         return out.raw[:size].hex()
 
 
-class Go(Driver):
+class Go(ImplementationDriver):
     """golang.org/x/crypto, by a program that makes the calls which it reads. A state is its number there."""
 
     hashes = ("blake2b", "blake2s", "blake2xb", "blake2xs")
@@ -211,51 +211,51 @@ class Go(Driver):
         print(*words, file=self.process().stdin, flush=True)
         mark, _, result = self.process().stdout.readline().rstrip("\n").partition(" ")
         if result == "unexpected EOF":
-            raise Absent("reads past the end, which return what is left")
+            raise UnsupportedCall("reads past the end, which return what is left")
         if mark != "=":
-            raise Refused
+            raise RefusedCall
         return result
 
-    def made(self, words):
+    def new_hash_state(self, words):
         if not set(words) <= {"size", "key"}:
-            raise Absent("salts and tree parameters")
+            raise UnsupportedCall("salts and tree parameters")
         if words.get("key") == "-":
-            raise Absent("an empty key, which is none")
-        key, family = digits_of(words.get("key", "-")), family_of(self.name)
+            raise UnsupportedCall("an empty key, which is none")
+        key, family = hex_digits(words.get("key", "-")), hash_letter_of_name(self.name)
         size = words.get("size", "unknown" if "x" in self.name else str(FAMILIES[family].key))
         if "x" in self.name:
-            if size != "unknown" and not 0 < number(size) <= UNKNOWN[family]:
-                raise Absent("no length of Go, or 0, which says that it is not known")
-        elif number(size) >= 1 << 63 or self.name == "blake2s" and size != "32" and (size != "16" or not key):
-            raise Absent("no int of Go, or another size of BLAKE2s than 32")
+            if size != "unknown" and not 0 < parse_number(size) <= UNKNOWN[family]:
+                raise UnsupportedCall("no length of Go, or 0, which says that it is not known")
+        elif parse_number(size) >= 1 << 63 or self.name == "blake2s" and size != "32" and (size != "16" or not key):
+            raise UnsupportedCall("no int of Go, or another size of BLAKE2s than 32")
         return self.call("new", self.name, size.replace("unknown", "0"), key)
 
     def update(self, slot, message):
-        data = digits_of(message)
-        self.call("write", self.of(slot), data)
+        data = hex_digits(message)
+        self.call("write", self.live_state(slot), data)
 
     def final(self, state):
         return self.call("sum", state)
 
     def read(self, slot, count):
         if int(count) > 1 << 20:
-            raise Absent("a read of this length")
-        return self.call("read", self.of(slot), count)
+            raise UnsupportedCall("a read of this length")
+        return self.call("read", self.live_state(slot), count)
 
     def reset(self, slot):
-        self.call("reset", self.of(slot))
+        self.call("reset", self.live_state(slot))
 
     def hash(self, _, message, **words):
-        data, state = digits_of(message), self.made(words)
+        data, state = hex_digits(message), self.new_hash_state(words)
         self.call("write", state, data)
         if "x" not in self.name:
             return self.final(state)
         if int(words["size"]) > 1 << 20:
-            raise Absent("an output of this length in one call")
+            raise UnsupportedCall("an output of this length in one call")
         return self.call("read", state, words["size"])
 
 
-class B2(Driver):
+class B2Program(ImplementationDriver):
     """The program `b2`: a digest in one call by `sum`, and states by `script`, which has one key, salt and
     personalization, and prints only what it has if it refuses no line. So it is run again over all lines so far at each
     digest, and at each call of a state that has ended. Each state is a copy of the first slot."""
@@ -273,17 +273,17 @@ class B2(Driver):
         size = words.pop("size", str(FAMILIES[family].key))
         kind = f"{family}{size.isdigit() and 8 * int(size)}"
         if kind not in KINDS or not set(words) <= set(names):
-            raise Absent("arguments")
-        given = [f"{names[name]}={digits_of(word)}" for name, word in words.items()]
+            raise UnsupportedCall("arguments")
+        given = [f"{names[name]}={hex_digits(word)}" for name, word in words.items()]
         if any(len(word) > 2000 for word in given):
-            raise Absent("an argument that a system may refuse")
+            raise UnsupportedCall("an argument that a system may refuse")
         return [kind, *given]
 
     def run(self, words, message, refusal):
         """What a run prints; `refusal` is what it prints if it refuses the call."""
         done = subprocess.run([self.path, *words], input=message, stdout=subprocess.PIPE, stderr=subprocess.DEVNULL)
         if (done.returncode, done.stdout) == (2, f"b2: {refusal}\n".encode()):
-            raise Refused
+            raise RefusedCall
         return done.stdout.decode() if not done.returncode else f"status {done.returncode}"
 
     def script(self):
@@ -291,7 +291,7 @@ class B2(Driver):
         text = "\n".join(self.lines).encode()
         try:
             said = self.run(["script", *self.words], text, f"line {len(self.lines)}: no such slot")
-        except Refused:
+        except RefusedCall:
             self.lines.pop()
             raise
         found, self.said = said.removeprefix(self.said), said
@@ -299,7 +299,7 @@ class B2(Driver):
 
     def line(self, letter, slot, more=""):
         """Adds a line of a slot, which has to be refused if that has ended. Returns what the script prints for it."""
-        place = self.of(slot)
+        place = self.live_state(slot)
         self.lines.append(f"{letter} {place}{more}")
         has_ended, self.live[place] = not self.live[place], self.live[place] and letter != "f"
         return self.script() if has_ended or letter == "f" else None
@@ -311,7 +311,7 @@ class B2(Driver):
             self.run(["script", *given], b"", "wrong length")
             self.words = given
         if given != self.words:
-            raise Absent("other arguments")
+            raise UnsupportedCall("other arguments")
         self.copy("first", slot)
 
     def copy(self, slot, other):
@@ -321,7 +321,7 @@ class B2(Driver):
         return said
 
     def update(self, slot, message):
-        return self.line("u", slot, f" {digits_of(message) or '-'}")
+        return self.line("u", slot, f" {hex_digits(message) or '-'}")
 
     def reset(self, slot):
         return self.line("r", slot)
@@ -330,22 +330,22 @@ class B2(Driver):
         return self.line("f", slot)
 
     def verify(self, slot, tag):
-        return "yes" if self.line("f", slot) == digits_of(tag) else "no"
+        return "yes" if self.line("f", slot) == hex_digits(tag) else "no"
 
     def hash(self, _, message, **words):
-        data = bytes.fromhex(digits_of(message))
+        data = bytes.fromhex(hex_digits(message))
         return self.run(["sum", *self.arguments(words)], data, "wrong length").removesuffix("\n")
 
 
-def outcome_text(driver, call):
+def outcome_of_call(driver, call):
     verb, *words = call.split()
     method = getattr(driver, verb, None)
     if method is None:
-        raise Absent(verb)
+        raise UnsupportedCall(verb)
     named = dict(word.split("=") for word in words if "=" in word)
     try:
         value = method(*(word for word in words if "=" not in word), **named)
-    except (Refused, Ended):
+    except (RefusedCall, EndedState):
         return "!"
     return "" if value is None else f"= {value or '-'}"
 
@@ -363,22 +363,22 @@ def run_cases(kind, name, path):
                 call, wanted = (re.split(r" (?=[=!] )", line) + [""])[:2]
                 if call.startswith(("count ", "left ")):
                     continue
-                got = outcome_text(driver, call)
+                got = outcome_of_call(driver, call)
                 if got != ("!" if wanted.startswith("!") else wanted):
                     wrong[title.split(".")[1]] += 1
                     print(f"{title}: {line[:120]}\n  gives {got[:100]!r}", file=sys.stderr)
                     break
             ran += 1
-        except Absent as absent:
+        except UnsupportedCall as absent:
             lacks[str(absent)] += 1
     return ran, lacks, wrong
 
 
-def counts_text(counts):
+def format_counts(counts):
     return ", ".join(f"{count} {name}" for name, count in counts.most_common()) or "none"
 
 
-def table_rows(folder, kinds):
+def result_table_rows(folder, kinds):
     """The rows of the table. On standard error: at what the other cases end."""
     for title, kind in kinds:
         if kind is Libb2 and not Libb2.library or kind is Go and not shutil.which("go"):
@@ -386,8 +386,8 @@ def table_rows(folder, kinds):
             continue
         for name in kind.hashes:
             ran, lacks, wrong = run_cases(kind, name, os.path.join(folder, f"{name}.txt"))
-            print(f"{title}, {name}: not run: {counts_text(lacks)}", file=sys.stderr)
-            yield f"| {title} | {name} | {ran} of {ran + sum(lacks.values())} | {counts_text(wrong)} |"
+            print(f"{title}, {name}: not run: {format_counts(lacks)}", file=sys.stderr)
+            yield f"| {title} | {name} | {ran} of {ran + sum(lacks.values())} | {format_counts(wrong)} |"
 
 
 def main():
@@ -401,11 +401,11 @@ def main():
     if chosen.libb2:  # whose states may be others
         Libb2.library, Libb2.skip, kinds = ctypes.CDLL(chosen.libb2), None, kinds[1:2]
     if chosen.b2:
-        B2.path, kinds = os.path.abspath(chosen.b2), (("b2", B2),)
+        B2Program.path, kinds = os.path.abspath(chosen.b2), (("b2", B2Program),)
     with open(os.path.join(HERE, "others.txt"), encoding="utf-8") as file:
         table = file.read()
     status = 0
-    for row in table_rows(chosen.folder, kinds):
+    for row in result_table_rows(chosen.folder, kinds):
         if not chosen.check or row not in table:
             print(row)
             status = int(chosen.check)

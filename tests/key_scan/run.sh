@@ -29,7 +29,7 @@ done
 source "$top/tools/toolchain.sh"
 
 # Builds the calls over what is proved. Crates that are not proved yet are proved first.
-build() {
+build_calls() {
     local toolchain rattle_cpu=$cpu
     toolchain=$(kit_folder)/toolchain
     if [ "$cpu" = x86-64-v4 ]; then
@@ -47,15 +47,15 @@ build() {
 
 # Builds and runs the search after a message of this many bytes. Without -z now the loader's first
 # look-up of a name saves vector registers on the stack.
-scan() {
+scan_after_message_length() {
     python3 "$here/secret_values.py" "$1" >"$work/secrets.h" &&
         cc -O1 -Wall -Wextra -Werror -march="$cpu" -fno-omit-frame-pointer -mno-red-zone \
             -Wl,-z,now -I"$work" -o "$work/scan" "$here/scan.c" "$work/keyed.a" && "$work/scan"
 }
 
-check "the build of tests/key_scan/calls.rt.txt for $cpu" build || finish
+check "the build of tests/key_scan/calls.rt.txt for $cpu" build_calls || finish
 for length in 0 64 1000; do
-    scan "$length" >"$work/lines" 2>&1
+    scan_after_message_length "$length" >"$work/lines" 2>&1
     status=$?
     [ "$(wc -l <"$work/lines")" -eq 11 ] || fail "11 lines, and status $status" "$work/lines"
     while IFS= read -r line; do

@@ -14,11 +14,11 @@
 
 #include "secrets.h"
 
-typedef _Bool keyed(const uint8_t *key, const uint8_t *message, size_t length, const uint8_t *tag,
+typedef _Bool keyed_hash_call(const uint8_t *key, const uint8_t *message, size_t length, const uint8_t *tag,
                     size_t tag_length);
-keyed keyed_b_by_value, keyed_b_wiped, keyed_b_scrubbed, keyed_s_by_value, keyed_s_wiped,
+keyed_hash_call keyed_b_by_value, keyed_b_wiped, keyed_b_scrubbed, keyed_s_by_value, keyed_s_wiped,
     keyed_s_scrubbed;
-keyed hashed_b_wiped, hashed_b_dropped, hashed_s_wiped, hashed_s_dropped;
+keyed_hash_call hashed_b_wiped, hashed_b_dropped, hashed_s_wiped, hashed_s_dropped;
 void settle_bytes(const uint8_t *bytes);
 
 // The stack that is looked at, in bytes below the frame of the caller, and a piece of a secret.
@@ -34,7 +34,7 @@ enum { DEPTH = 64 * 1024, PIECE = 8 };
 // least: else this looks in the wrong place.
 struct form {
     const char *name;
-    keyed *call;
+    keyed_hash_call *call;
     char family;
     _Bool is_wiped;
     int key, tag, chain;
@@ -67,7 +67,7 @@ static __attribute__((noinline)) void fill_stack(void)
 }
 
 // Runs a form, and copies the vector registers and the stack below this frame before anything else.
-static __attribute__((noinline)) _Bool run(const struct form *form)
+static __attribute__((noinline)) _Bool run_form_and_copy_stack(const struct form *form)
 {
     int is_b = form->family == 'b';
     _Bool is_taken = form->call(key, message, LENGTH, is_b ? tag_b : tag_s, is_b ? 64 : 32);
@@ -86,7 +86,7 @@ static __attribute__((noinline)) _Bool run(const struct form *form)
 }
 
 // How often pieces of a secret stand in these bytes.
-static int copies(const uint8_t *in, size_t size, const uint8_t *secret, size_t bytes)
+static int count_secret_pieces(const uint8_t *in, size_t size, const uint8_t *secret, size_t bytes)
 {
     int found = 0;
     for (size_t piece = 0; piece + PIECE <= bytes; piece += PIECE)
@@ -98,7 +98,7 @@ static int copies(const uint8_t *in, size_t size, const uint8_t *secret, size_t 
 // Whether `settle`, which makes a compiler keep zeros, reads its 64 bytes to the last, and none
 // behind them: a page that can't be read stops it at each place but behind them.
 static sigjmp_buf before_the_read;
-static void stop(int number)
+static void jump_back_on_fault(int number)
 {
     siglongjmp(before_the_read, number);
 }
@@ -110,7 +110,7 @@ static _Bool settle_reads_all(void)
         mmap(NULL, 2 * PAGE, PROT_READ | PROT_WRITE, MAP_PRIVATE | MAP_ANONYMOUS, -1, 0);
     volatile int stops = 0, readable;
     if (pages == MAP_FAILED || mprotect(pages + PAGE, PAGE, PROT_NONE) != 0 ||
-        signal(SIGSEGV, stop) == SIG_ERR)
+        signal(SIGSEGV, jump_back_on_fault) == SIG_ERR)
         return 0;
     for (readable = 0; readable <= BYTES; readable++) {
         if (sigsetjmp(before_the_read, 1) == 0)
@@ -122,18 +122,18 @@ static _Bool settle_reads_all(void)
     return stops == BYTES;
 }
 
-static void look(const struct form *form)
+static void check_form(const struct form *form)
 {
     int is_b = form->family == 'b';
     size_t size = is_b ? 64 : 32;
     const uint8_t *tag = is_b ? tag_b : tag_s, *chain = is_b ? chain_b : chain_s;
     fill_stack();
-    _Bool is_taken = run(form);
-    int in_key = copies(stack, DEPTH, key, size);
-    int in_tag = copies(stack, DEPTH, tag, size);
-    int in_chain = copies(stack, DEPTH, chain, is_b ? CHAIN_B : CHAIN_S);
+    _Bool is_taken = run_form_and_copy_stack(form);
+    int in_key = count_secret_pieces(stack, DEPTH, key, size);
+    int in_tag = count_secret_pieces(stack, DEPTH, tag, size);
+    int in_chain = count_secret_pieces(stack, DEPTH, chain, is_b ? CHAIN_B : CHAIN_S);
     _Bool is_scrubbed = form->call == keyed_b_scrubbed || form->call == keyed_s_scrubbed;
-    int in_upper = copies(upper, sizeof upper, key, size) + copies(upper, sizeof upper, tag, size);
+    int in_upper = count_secret_pieces(upper, sizeof upper, key, size) + count_secret_pieces(upper, sizeof upper, tag, size);
     _Bool fits = is_taken && in_key >= !form->is_wiped && in_key <= form->key &&
                  in_tag <= form->tag && in_chain <= form->chain && !(is_scrubbed && in_upper);
     printf("%s: %s, message of %d bytes: key %d, tag %d, chaining words %d",
@@ -149,6 +149,6 @@ int main(void)
     printf("%s: settle reads 64 bytes\n", reads ? "passed" : "FAILED");
     fails = !reads;
     for (const struct form *form = FORMS; form < FORMS + COUNT; form++)
-        look(form);
+        check_form(form);
     return fails != 0;
 }

@@ -174,7 +174,7 @@ def check_unchanged_is_accepted() -> tuple:
 def follow_export(program: programs.Program, exported: str) -> None:
     for entry in constant_time.exports(program):
         if entry[0] == exported:
-            constant_time.follow_call_or_skip(program, entry)
+            constant_time.follow_call_unless_unbounded(program, entry)
 
 
 def check_sections_and_calls(program: programs.Program) -> None:

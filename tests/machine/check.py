@@ -124,7 +124,7 @@ def prove_one_compression(path: str, name: str, kind: Any, lanes: int) -> str:
     return "%d instructions, %d executed on %d paths, %.1f s" % (len(runner.code), runner.count, runner.paths, seconds)
 
 
-def find_unlisted_functions(path: str) -> tuple:
+def check_rotating_functions_are_listed(path: str) -> tuple:
     found = ", ".join(functions.unlisted_rotating_functions(programs.read(path)))
     why = "%s: rotates words as G does: add it to FILES in tests/machine/functions.py"
     return ("not ok", why % found) if found else ("ok", "")
@@ -156,7 +156,8 @@ def calls_to_follow(path: str, part: str) -> list:
 
 
 def follow_secrets(path: str, part: str) -> str:
-    found = [constant_time.follow_call_or_skip(programs.read(path), entry) for entry in calls_to_follow(path, part)]
+    found = [constant_time.follow_call_unless_unbounded(programs.read(path), entry)
+             for entry in calls_to_follow(path, part)]
     reached = [f.reached for f in found if f is not None]
     return "%d functions, which reach %d instructions besides those that compress" % (
         len(reached), len(set().union(*reached)))
@@ -189,7 +190,7 @@ def proofs(path: str, has_all: bool) -> Iterator[Job]:
     is_short, gone = not has_all and not is_long(), missing(path)
     is_library = "/vulfsjor" in path and functions.architecture(path) != "wasm"
     job = lambda title, show, *arguments, needs=gone: Job("%s: %s" % (path, title), needs, partial(show, *arguments))
-    yield job("no other function has a copy of the rounds", find_unlisted_functions, path)
+    yield job("no other function has a copy of the rounds", check_rotating_functions_are_listed, path)
     if is_library:
         yield job("nothing that runs or is read is writable, and each exported function is known",
                   check_whole_file, path)

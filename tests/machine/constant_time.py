@@ -285,7 +285,7 @@ def follow_call(program: programs.Program, name: str, kinds: tuple, family: str)
     return analysis
 
 
-def follow_call_or_skip(program: programs.Program, entry: tuple) -> TaintAnalysis | None:
+def follow_call_unless_unbounded(program: programs.Program, entry: tuple) -> TaintAnalysis | None:
     """The same, or None for a function of NOT_SHOWN for which no bound is known, and which must not be shown."""
     name = entry[0]
     try:

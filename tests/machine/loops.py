@@ -338,7 +338,7 @@ class OutputLoop(Induction):
         self.rest = self.propose_growing_words(changed, step)
         seen = [self.first] + [cells for _, cells in found]
         self.left = {c for c in self.rest if c[0] == "vector" and all(
-            self.start.vector_byte_may_remain(*c[1:], cells[c]) for cells in seen)}
+            self.start.vector_byte_is_allowed_to_remain(*c[1:], cells[c]) for cells in seen)}
         self.what = self.start.leftover_kind([cells[c] for c in self.left for cells in seen])
         if self.place not in self.grows:
             raise CannotShow("a read does not move the position")
@@ -361,7 +361,8 @@ class OutputLoop(Induction):
         wanted = {**self.first, **self.growing_bytes_at(self.bytes_written_at(self.word(cells, self.place)))}
         return {c for c in self.mismatched_places(cells, wanted, m.byte_normalizer()) if c[1] is not self.out} | {
             c for c in self.left
-            if not m.vector_byte_may_remain(*c[1:], cells[c]) or m.leftover_kind([cells[c]]) != self.what != AFTER_KEY}
+            if not m.vector_byte_is_allowed_to_remain(*c[1:], cells[c]) or
+            m.leftover_kind([cells[c]]) != self.what != AFTER_KEY}
 
 
 def refuse_output(m: Any, length: T.Term) -> None:

@@ -90,8 +90,9 @@ def module_of(path: str) -> Any:
     with open(os.path.join(ROOT, path), "rb") as f:
         data = f.read()
     try:
-        return wasm_format.Module(wasm_format.module_of_script(data.decode()) if path.endswith(".js") else data)
-    except wasm_format.CannotRead as why:
+        return wasm_format.WasmModule(wasm_format.module_bytes_of_script(data.decode()) if path.endswith(".js")
+                                      else data)
+    except wasm_format.UnreadableModule as why:
         raise CannotShow(str(why)) from why
 
 

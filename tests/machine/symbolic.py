@@ -169,7 +169,7 @@ class SymbolicState(MachineState):
         other.secrets = dict(self.secrets)
         return other
 
-    def vector_byte_may_remain(self, j: int, k: int, b: T.Byte) -> bool:
+    def vector_byte_is_allowed_to_remain(self, j: int, k: int, b: T.Byte) -> bool:
         """Whether a byte of a vector register is zero, as at the entry, or left by the C library."""
         return b in (0, self.at_start["vector"][j][k]) or isinstance(b, tuple) and is_left_by_c_library(b[0])
 
@@ -179,7 +179,7 @@ class SymbolicState(MachineState):
             return True
         data = self.vector[j][start:]
         return not any(data) or all(data) and all(
-            self.vector_byte_may_remain(j, k, b) for k, b in enumerate(data, start))
+            self.vector_byte_is_allowed_to_remain(j, k, b) for k, b in enumerate(data, start))
 
     @staticmethod
     def leftover_kind(data: list) -> str:

@@ -32,14 +32,14 @@ VALUES = {"M": M, "K": K, "D": hashlib.blake2b(M).digest(), "T": hashlib.blake2b
 Row = collections.namedtuple("Row", "place name kind words code")
 
 
-def read_given(language):
+def read_prelude(language):
     with open(os.path.join(HERE, "given.txt"), encoding="utf-8") as file:
         lines = [text.rstrip("\n").partition(" | ") for text in file if not text.startswith("#")]
     assert all(first in LANGUAGES for first, bar, _ in lines if bar), "given.txt: an unknown language"
     return [code for first, bar, code in lines if bar and first == language]
 
 
-def read_table(path, language):
+def read_misuse_rows(path, language):
     """The rows of a language. Each row of the table must have a line for every language, in their order."""
     with open(path, encoding="utf-8") as file:
         lines = file.read().split("\n")
@@ -60,7 +60,7 @@ def read_table(path, language):
     return found
 
 
-def compare(row, outcome):
+def is_expected_outcome(row, outcome):
     """Whether this is the outcome of the row, which is printed if it is not."""
     kind, _, said = outcome.partition(": ")
     wanted = "right" if row.kind == "open" else row.kind
@@ -70,7 +70,7 @@ def compare(row, outcome):
     return False
 
 
-def numbers_of(value):
+def comma_separated(value):
     return ", ".join(map(str, value))
 
 
@@ -86,14 +86,14 @@ def run_python(given, rows):
 
 
 def run_js(given, rows, index):
-    values = (f"const {name} = Uint8Array.of({numbers_of(value)});\n" for name, value in VALUES.items())
+    values = (f"const {name} = Uint8Array.of({comma_separated(value)});\n" for name, value in VALUES.items())
     asked = {"given": "".join(values) + "\n".join(given), "rows": {row.place: row.code for row in rows}}
     said = subprocess.run(["node", os.path.join(HERE, "run.mjs"), index], input=json.dumps(asked), text=True,
                           stdout=subprocess.PIPE, check=True).stdout
     yield from json.loads(said).items()
 
 
-class Compiled:
+class CompiledLanguage:
     """A language with a compiler: where a line of its text comes from, and what is said of it."""
 
     texts = [[kind] for kind in COMPILED]
@@ -101,7 +101,7 @@ class Compiled:
     def __init__(self, given, suffix, compiler, linked):
         self.given, self.suffix, self.compiler, self.linked = "\n".join(given) + "\n", suffix, compiler, linked
 
-    def compile(self, folder, name, text, *options):
+    def compile_text(self, folder, name, text, *options):
         path = os.path.join(folder, name + self.suffix)
         with open(path, "w", encoding="utf-8") as file:
             file.write(text)
@@ -110,12 +110,12 @@ class Compiled:
         return subprocess.run([*self.compiler, *options, "-o", out, path, *(() if options else self.linked)],
                               stderr=subprocess.PIPE, text=True, check=False).stderr
 
-    def outcomes(self, folder, rows):
+    def compiler_outcomes(self, folder, rows):
         """What the compiler says of rows with errors, with warnings, or with either, all in one text."""
         if not rows:
             return
-        text, kind = self.head() + "".join(self.function(row) for row in rows), rows[0].kind
-        about = self.findings(self.compile(folder, kind, text, *self.only_look(kind)), text)
+        text, kind = self.program_head() + "".join(self.function(row) for row in rows), rows[0].kind
+        about = self.findings_by_place(self.compile_text(folder, kind, text, *self.compile_only_flags(kind)), text)
         for row in rows:
             said = about.get((row.place, {"no": "error", "warns": "warning"}[row.kind]))
             yield row.place, f"{row.kind}: {said}" if said else "nothing is said"
@@ -123,33 +123,33 @@ class Compiled:
         other = [said for (place, what), said in about.items() if what == "error" and place not in refused]
         assert not other, other[0]
 
-    def findings(self, said, text):
+    def findings_by_place(self, said, text):
         about, key = collections.defaultdict(str), None
         for line in said.splitlines():
             found = re.match(self.message, line)
             # g++ calls errors why a candidate is none, there or in a header of ours.
             if found and not found[1].startswith("/usr/") and "std::enable_if<false" not in line:
-                key = (self.place(found[1], int(found[2]), text), found[3].split("[")[0])
+                key = (self.place_of_message(found[1], int(found[2]), text), found[3].split("[")[0])
             if key:
                 about[key] += line + "\n"
         return about
 
     def run(self, folder, rows):
-        said = self.compile(folder, "run", self.head() + self.main(rows))
+        said = self.compile_text(folder, "run", self.program_head() + self.main(rows))
         assert os.path.exists(os.path.join(folder, "run")), said
         printed = subprocess.run([os.path.join(folder, "run")], stdout=subprocess.PIPE, text=True, check=True).stdout
         for line in printed.splitlines():
             place, _, outcome = line.partition(" ")
             yield place, outcome
 
-    def all(self, rows):
+    def all_outcomes(self, rows):
         with tempfile.TemporaryDirectory() as folder:
             for kinds in self.texts:
-                yield from self.outcomes(folder, [row for row in rows if row.kind in kinds])
+                yield from self.compiler_outcomes(folder, [row for row in rows if row.kind in kinds])
             yield from self.run(folder, [row for row in rows if row.kind not in COMPILED])
 
 
-class C(Compiled):
+class CLanguage(CompiledLanguage):
     looks = {"no": "-fsyntax-only", "warns": "-O2 -c"}  # without optimization gcc compares no lengths
     message = r"(.*?):(\d+):\d+: (?:fatal )?(error|warning): "
     values = "static const unsigned char {}[{}] = {{{}}};\n"
@@ -160,8 +160,8 @@ static void show(const char *row, int value) {
 """
     call = '    show("{0.place}",\n#line {1} "{2}"\n{0.code});\n'
 
-    def head(self):
-        values = "".join(self.values.format(name, len(value), numbers_of(value)) for name, value in VALUES.items())
+    def program_head(self):
+        values = "".join(self.values.format(name, len(value), comma_separated(value)) for name, value in VALUES.items())
         return '#line 1 "values"\n' + values + '#line 1 "given"\n' + self.given + '#line 1 "functions"\n'
 
     def function(self, row):
@@ -169,10 +169,10 @@ static void show(const char *row, int value) {
         return f'void row_{name[:-4]}{line}(void);\nvoid row_{name[:-4]}{line}(void) {{\n#line {line} "{name}"\n' \
                f'{row.code};\n}}\n'
 
-    def place(self, file, line, _):
+    def place_of_message(self, file, line, _):
         return f"{file}:{line}" if re.fullmatch(r"\w+\.txt", file) else ""
 
-    def only_look(self, kind):
+    def compile_only_flags(self, kind):
         every = "-ferror-limit=0" if "clang" in self.compiler[0] else "-fmax-errors=0"
         return ["-Wall", "-Wextra", "-Wno-unused", "-Wunused-result", every, *self.looks[kind].split()]
 
@@ -181,7 +181,7 @@ static void show(const char *row, int value) {
         return self.show + "int main(void) {\n" + calls + "    return 0;\n}\n"
 
 
-class Cpp(C):
+class CppLanguage(CLanguage):
     texts = [COMPILED]  # no row is about lengths that a compiler compares
     looks = dict.fromkeys(COMPILED, "-fsyntax-only")
     values = "const std::vector<std::uint8_t> {0}{{{2}}};\n"
@@ -203,11 +203,11 @@ void show(const char *row, const char *(*call)()) {
 }
 """
 
-    def head(self):
-        return "#include <cstdint>\n#include <vector>\n" + super().head()
+    def program_head(self):
+        return "#include <cstdint>\n#include <vector>\n" + super().program_head()
 
 
-class Rust(Compiled):
+class RustLanguage(CompiledLanguage):
     message = r"(.*?):(\d+):\d+: (error(?:\[\w+\])?|warning)(?:\[\w+\])?: "
     show = r"""
 trait Show { fn show(self) -> String; }
@@ -224,18 +224,18 @@ fn show<R: Show>(row: &str, call: impl FnOnce() -> R) {
 }
 """
 
-    def head(self):
-        values = (f"const {name}: [u8; {len(value)}] = [{numbers_of(value)}];\n" for name, value in VALUES.items())
+    def program_head(self):
+        values = (f"const {name}: [u8; {len(value)}] = [{comma_separated(value)}];\n" for name, value in VALUES.items())
         allowed = "#![allow(dead_code, unused_variables, unused_mut, unused_assignments, unused_imports)]\n"
         return allowed + "".join(values) + self.given
 
     def function(self, row):
         return f"fn row_{re.sub('[.:]', '_', row.place)}() {{ let mut b = [0u8; 64]; {row.code}; }} // {row.place}\n"
 
-    def place(self, _, line, text):
+    def place_of_message(self, _, line, text):
         return text.split("\n")[line - 1].rpartition(" // ")[2] if " // " in text.split("\n")[line - 1] else ""
 
-    def only_look(self, kind):
+    def compile_only_flags(self, kind):
         return ["--error-format=short", "--crate-type=lib", "--emit=metadata"]
 
     def main(self, rows):
@@ -243,25 +243,26 @@ fn show<R: Show>(row: &str, call: impl FnOnce() -> R) {
         return self.show + "fn main() {\n    std::panic::set_hook(Box::new(|_| ()));\n" + calls + "}\n"
 
 
-def run_compiled(kind, suffix):
+def runner_of_language(kind, suffix):
     def run(given, rows, *words):
         at = words.index("--")
-        yield from kind(given, suffix, words[:at], words[at + 1:]).all(rows)
+        yield from kind(given, suffix, words[:at], words[at + 1:]).all_outcomes(rows)
     return run
 
 
-RUNNERS = {"c": run_compiled(C, ".c"), "cpp": run_compiled(Cpp, ".cpp"), "rust": run_compiled(Rust, ".rs"),
+RUNNERS = {"c": runner_of_language(CLanguage, ".c"), "cpp": runner_of_language(CppLanguage, ".cpp"),
+           "rust": runner_of_language(RustLanguage, ".rs"),
            "python": run_python, "js": run_js}
 
 
 def main():
     language, *words = sys.argv[1:]
     tables = sorted(set(glob.glob(os.path.join(HERE, "*.txt"))) - {os.path.join(HERE, "given.txt")})
-    every = [row for table in tables for row in read_table(table, language)]
+    every = [row for table in tables for row in read_misuse_rows(table, language)]
     assert len({row.name for row in every}) == len(every), "two rows have one name"
     rows = [row for row in every if row.kind != "none"]
-    outcomes = dict(RUNNERS[language](read_given(language), rows, *words))
-    right = [compare(row, outcomes.get(row.place, "nothing")) for row in rows]
+    outcomes = dict(RUNNERS[language](read_prelude(language), rows, *words))
+    right = [is_expected_outcome(row, outcomes.get(row.place, "nothing")) for row in rows]
     print(f"{language}: {len(every)} misuses, {len(rows)} can be said, {sum(row.kind == 'open' for row in rows)} pass "
           f"unnoticed, {right.count(False)} are not as the tables say")
     return not all(right) or len(rows) < LEAST

@@ -160,117 +160,120 @@ FIELDS = {
 EDGES = [0, 1, 2, 7, 31, 32, 63, 64, 127, 128, 255, 256, 32767, 32768, 65535, 1 << 31]
 
 
-class Maker:
+class WasmFunctionMaker:
     def __init__(self, seed):
         self.random = random.Random(seed)
         self.room = 0               # bytes of the part of the stack
         self.functions = []         # results and lines of each
 
-    def one_of(self, *things):
+    def random_choice(self, *things):
         return self.random.choice(things)
 
-    def number(self, type_):
+    def random_number(self, type_):
         """A number, often one at an edge."""
         w = BITS[type_]
-        n = self.one_of(*EDGES, (1 << w) - 1, (1 << w) - 2, (1 << w) - 8, (1 << w) - 300, 1 << w - 1, (1 << w - 1) - 1,
+        n = self.random_choice(*EDGES, (1 << w) - 1, (1 << w) - 2, (1 << w) - 8, (1 << w) - 300, 1 << w - 1,
+                               (1 << w - 1) - 1,
                         self.random.getrandbits(w))
         return n - (n >> w - 1 << w)
 
-    def address(self):
+    def random_address_local(self):
         """The local of an address, with at least 64 bytes after it."""
         return FRAME if self.room >= 64 and self.random.random() < .3 else BUFFER
 
-    def field(self, name, type_, blocks):
-        here = {"n": lambda: self.number(type_), "at": self.address, "label": lambda: self.random.randrange(blocks),
+    def random_field(self, name, type_, blocks):
+        here = {"n": lambda: self.random_number(type_), "at": self.random_address_local,
+                "label": lambda: self.random.randrange(blocks),
                 "room": lambda: self.room, "last": lambda: self.room - 8,
-                "after": lambda: self.one_of(0, 8, 24) if self.room >= 48 else 0}
+                "after": lambda: self.random_choice(0, 8, 24) if self.room >= 48 else 0}
         if name in here:
             return here[name]()
         found = FIELDS[name]
         return self.random.choice(found[type_] if isinstance(found, dict) else found)
 
-    def apply(self, name, type_, depth=0, nesting=0, blocks=0, kept=None):
+    def apply_rule(self, name, type_, depth=0, nesting=0, blocks=0, kept=None):
         """The lines of a rule, after these choices. Expressions in it have this depth, and statements may nest so far
         in these blocks."""
         lines, kept = [], {} if kept is None else kept
 
-        def chosen(match):
+        def field_text(match):
             word, more = match[1], int(match[2] or 0)
             if not word.endswith("1"):
-                return str(self.field(word, type_, blocks))
+                return str(self.random_field(word, type_, blocks))
             if word not in kept:
-                kept[word] = self.field(word[:-1], type_, blocks)
+                kept[word] = self.random_field(word[:-1], type_, blocks)
             return str(kept[word] + more if more else kept[word])
 
         for item in self.random.choice(BY_NAME[name]):
             if not item.startswith("@"):
-                lines.append(re.sub(r"\{(\w+)(?:\+(\d))?\}", chosen, item))
+                lines.append(re.sub(r"\{(\w+)(?:\+(\d))?\}", field_text, item))
                 continue
             part, _, more = item[1:].partition("/")
             of = {"t": type_, "u": "i32" if type_ == "i64" else "i64"}.get(part, part)
             if of in TYPES:
-                lines += self.expression(of, int(more) if more else depth)
+                lines += self.random_expression(of, int(more) if more else depth)
             elif part == "body":
-                lines += self.statements(nesting, int(more) + (blocks if more.startswith("+") else 0))
+                lines += self.random_statements(nesting, int(more) + (blocks if more.startswith("+") else 0))
             elif part in BY_NAME:
-                of = self.one_of(*TYPES) if more == "any" else more or type_
-                lines += self.apply(part, of, depth, kept=None if more else kept)
+                of = self.random_choice(*TYPES) if more == "any" else more or type_
+                lines += self.apply_rule(part, of, depth, kept=None if more else kept)
             else:
                 lines += getattr(self, part)()
         return list(filter(None, lines))
 
-    def expression(self, type_, depth):
+    def random_expression(self, type_, depth):
         """Lines that leave a number of this type."""
-        return self.apply("number" if depth else "leaf", type_, depth - 1)
+        return self.apply_rule("number" if depth else "leaf", type_, depth - 1)
 
-    def statement(self, nesting, blocks):
+    def random_statement(self, nesting, blocks):
         """A statement: it leaves no operand."""
         names = (("statement", True), ("in_block", blocks), ("calling", self.functions), ("nesting", nesting),
                  ("on_stack", self.room))
-        name = self.one_of(*(name for name, is_possible in names if is_possible for _ in BY_NAME[name]))
-        return self.apply(name, self.one_of(*TYPES), nesting=nesting - 1, blocks=blocks)
+        name = self.random_choice(*(name for name, is_possible in names if is_possible for _ in BY_NAME[name]))
+        return self.apply_rule(name, self.random_choice(*TYPES), nesting=nesting - 1, blocks=blocks)
 
-    def statements(self, nesting, blocks):
-        return [line for _ in range(self.random.randrange(1, 5)) for line in self.statement(nesting, blocks)]
+    def random_statements(self, nesting, blocks):
+        return [line for _ in range(self.random.randrange(1, 5)) for line in self.random_statement(nesting, blocks)]
 
     # ---- what has no rule
 
     def plain_statement(self):
         """A statement with no other in it."""
-        return self.statement(0, 0)
+        return self.random_statement(0, 0)
 
-    def any_call(self):
+    def call_of_random_function(self):
         """Lines that call one of the functions before, and the type of what they leave."""
         k = self.random.randrange(len(self.functions))
-        lines = [f"local.get {self.address()}", *self.expression("i64", 2), *self.expression("i64", 2), f"call {k}"]
+        lines = [f"local.get {self.random_address_local()}", *self.random_expression("i64", 2),
+                 *self.random_expression("i64", 2), f"call {k}"]
         return lines, *(self.functions[k][0] or [None])
 
     def call(self):
         """Calls a function, whose result is used or not."""
-        lines, type_ = self.any_call()
+        lines, type_ = self.call_of_random_function()
         if type_ and self.random.random() < .3:
-            return lines + [self.one_of("drop", f"local.set {UNREAD[type_]}")]
-        return lines + (self.apply("mix", type_) if type_ else [])
+            return lines + [self.random_choice("drop", f"local.set {UNREAD[type_]}")]
+        return lines + (self.apply_rule("mix", type_) if type_ else [])
 
     def calls(self):
         """The result of a call waits during another."""
         lines = []
         for _ in range(2):
-            call, type_ = self.any_call()
+            call, type_ = self.call_of_random_function()
             lines += call + {"i32": ["i64.extend_i32_u"], None: ["i64.const 5"]}.get(type_, [])
-        return lines + ["i64.sub"] + self.apply("mix", "i64")
+        return lines + ["i64.sub"] + self.apply_rule("mix", "i64")
 
     # ---- functions
 
-    def function(self):
+    def random_function(self):
         """The results and the lines of a function."""
         results = RESULTS[len(self.functions) % 3]
-        self.room = self.one_of(0, 0, 16, 48, 160, 160, 1040)
+        self.room = self.random_choice(0, 0, 16, 48, 160, 160, 1040)
         aligned = "_aligned" * (self.random.random() < .3)
-        lines = self.apply(f"take{aligned}" if self.room else "enter", "i64") + ["i32.const 5", "local.set 7"]
-        end = self.apply(f"give{aligned}", "i64") if self.room else []
+        lines = self.apply_rule(f"take{aligned}" if self.room else "enter", "i64") + ["i32.const 5", "local.set 7"]
+        end = self.apply_rule(f"give{aligned}", "i64") if self.room else []
         for _ in range(8):
-            lines += self.statement(3, 0)
+            lines += self.random_statement(3, 0)
         sums = [f"local.get {FREE['i64'][0]}"]
         for n in FREE["i64"][1:]:
             sums += ["i64.const 13", "i64.rotl", f"local.get {n}", "i64.add"]
@@ -279,17 +282,17 @@ class Maker:
         if not results:
             return results, lines + ["local.get 0"] + sums + ["i64.store 0"] + end + ["end"]
         sums += ["i32.wrap_i64"] if results == ["i32"] else []
-        result = self.one_of(*FREE[results[0]])
+        result = self.random_choice(*FREE[results[0]])
         if self.random.random() < .5:
             return results, lines + sums + [f"local.set {result}"] + end + [f"local.get {result}", "return", "end"]
         return results, lines + sums + end + ["end"]
 
-    def make(self, count):
+    def make_functions(self, count):
         """Makes functions. Those after the fourth call only earlier ones of the first four."""
         made = []
         for k in range(count):
             self.functions = made[:min(k, 4)]
-            made.append(self.function())
+            made.append(self.random_function())
         return made
 
 
@@ -299,7 +302,7 @@ CODES = {known.partition(" ")[0]: (prefix + bytes([code]), known.partition(" ")[
          for prefix, table in ((b"", PLAIN), (b"\xfc", MORE)) for code, known in table.items()}
 
 
-def leb(n, signed=False):
+def leb128(n, signed=False):
     """A number in LEB128."""
     found = b""
     while True:
@@ -309,43 +312,47 @@ def leb(n, signed=False):
         found += bytes([low | 128])
 
 
-def instruction(line):
+def encoded_instruction(line):
     name, *words = line.split()
     code, kinds = CODES[name]
     if kinds == "b":
         return code + bytes([TYPES[words[0]] if words else 0x40])
     if kinds == "m":
-        return code + b"\0" + leb(int(words[0]))
+        return code + b"\0" + leb128(int(words[0]))
     kinds = kinds.replace("t", "u" * len(words))
-    return code + b"".join(leb(int(word), kind == "s") for kind, word in zip(kinds, words))
+    return code + b"".join(leb128(int(word), kind == "s") for kind, word in zip(kinds, words))
 
 
-def listed(parts):
-    return leb(len(parts)) + b"".join(parts)
+def encoded_list(parts):
+    return leb128(len(parts)) + b"".join(parts)
 
 
-def sized(data):
-    return leb(len(data)) + data
+def with_length_prefix(data):
+    return leb128(len(data)) + data
 
 
-def section(id_, content):
-    return bytes([id_]) + sized(content)
+def encoded_section(id_, content):
+    return bytes([id_]) + with_length_prefix(content)
 
 
-def module(functions, exports, more=b""):
+def encoded_module(functions, exports, more=b""):
     """A module: of functions (name, parameters, results, other locals, lines), with a stack of a page and a half, and
     with exports, by name. `more` are other sections, after the first."""
-    types = listed([b"\x60" + b"".join(sized(bytes(TYPES[t] for t in each)) for each in f[1:3]) for f in functions])
-    top = leb(98304, True)
-    globals_ = listed([b"\x7e\x01\x42" + top + b"\x0b", b"\x7f\x01\x41\0\x0b", b"\x7e\0\x42" + top + b"\x0b"])
-    bodies = [sized(listed([bytes([1, TYPES[t]]) for t in locals_]) + b"".join(map(instruction, lines)))
+    types = encoded_list([b"\x60" + b"".join(with_length_prefix(bytes(TYPES[t] for t in each)) for each in f[1:3])
+                          for f in functions])
+    top = leb128(98304, True)
+    globals_ = encoded_list([b"\x7e\x01\x42" + top + b"\x0b", b"\x7f\x01\x41\0\x0b", b"\x7e\0\x42" + top + b"\x0b"])
+    bodies = [with_length_prefix(encoded_list([bytes([1, TYPES[t]])
+                                               for t in locals_]) + b"".join(map(encoded_instruction, lines)))
               for *_, locals_, lines in functions]
-    names = listed([leb(k) + sized(f[0].encode()) for k, f in enumerate(functions)])
-    exported = [sized(name.encode()) + b"\0" + leb(k) for name, k in exports.items()]
-    return (b"\0asm\1\0\0\0" + section(1, types) + more + section(3, listed([leb(k) for k in range(len(functions))])) +
-            section(5, b"\x01\x04\x02") + section(6, globals_) +
-            section(7, listed(exported + [b"\x06memory\x02\0"])) + section(10, listed(bodies)) +
-            section(0, b"\x04name" + section(1, names)))
+    names = encoded_list([leb128(k) + with_length_prefix(f[0].encode()) for k, f in enumerate(functions)])
+    exported = [with_length_prefix(name.encode()) + b"\0" + leb128(k) for name, k in exports.items()]
+    return (b"\0asm\1\0\0\0" + encoded_section(1, types) + more +
+            encoded_section(3, encoded_list([leb128(k) for k in range(len(functions))])) +
+            encoded_section(5, b"\x01\x04\x02") + encoded_section(6, globals_) +
+            encoded_section(7, encoded_list(exported + [b"\x06memory\x02\0"])) + encoded_section(10,
+                                                                                                 encoded_list(bodies)) +
+            encoded_section(0, b"\x04name" + encoded_section(1, names)))
 
 
 # The functions of Rattle's runtime between which an exported function calls another.
@@ -355,7 +362,7 @@ RUNTIME = [("__rattle_enter", [], ["i32"], ["i32"], ["global.get 1", "local.set 
            ("__rattle_trap", [], [], [], ["unreachable", "end"])]
 
 
-def wrapper(callee, results, runtime, order):
+def wrapper_lines(callee, results, runtime, order):
     """The lines of a function that calls another, with its arguments in this order, as Rattle writes it."""
     return ["block", f"call {runtime}", "i32.eqz", "br_if 0", f"call {runtime + 2}", "unreachable", "end",
             *(f"local.get {k}" for k in order), f"call {callee}", *["local.set 3"] * len(results),
@@ -365,7 +372,7 @@ def wrapper(callee, results, runtime, order):
 def random_module(seed, count):
     """A module of random functions, their results, and their lines. Those of some are called by the exported ones, and
     some of these swap the last two arguments."""
-    made = Maker(seed).make(count)
+    made = WasmFunctionMaker(seed).make_functions(count)
     functions = [(f"vulfsjor_ffi_t{k}", PARAMETERS, results, LOCALS, lines)
                  for k, (results, lines) in enumerate(made)]
     exports = {function[0]: k for k, function in enumerate(functions)}
@@ -374,6 +381,6 @@ def random_module(seed, count):
         name, _, results, _, _ = functions[k]
         functions[k] = "rattle::export " + name, *functions[k][1:]
         exports[name] = len(functions)
-        lines = wrapper(k, results, count, (0, 1, 2) if k % 2 else (0, 2, 1))
+        lines = wrapper_lines(k, results, count, (0, 1, 2) if k % 2 else (0, 2, 1))
         functions.append((name, PARAMETERS, results, results or ["i64"], lines))
-    return module(functions, exports), [results for results, _ in made], [lines for _, lines in made]
+    return encoded_module(functions, exports), [results for results, _ in made], [lines for _, lines in made]
