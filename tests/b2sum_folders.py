@@ -9,9 +9,11 @@ usage: tests/b2sum_folders.py [PROGRAM..]
 """
 import collections
 import errno
+import functools
 import itertools
 import os
 import random
+import re
 import resource
 import shutil
 import signal
@@ -41,14 +43,21 @@ def error_text(number):
 
 # ---- Folders, and what a run has to print.
 
+@functools.cache
+def names_read_by_shell(words):
+    """The names that a shell reads. If they have no byte that it may read otherwise, they are as they are."""
+    if re.fullmatch(rb"[\w./ -]*", words):
+        return words.split()
+    done = subprocess.run(["bash"], input=b'set -f; printf "%s\\0" ' + words, stdout=subprocess.PIPE)
+    return done.stdout.split(b"\0")
+
+
 def parse_messages(err):
     """The messages of the program: for each the name, as a shell reads it, and what is said of it; if that is of no
     file, only the latter."""
     parts = [text.removeprefix(b"b2sum: ").rpartition(b": ")[::2] for text in err.splitlines()]
     parts = [(b"" if name in (b"WARNING", b"write error") else name, what.decode()) for name, what in parts]
-    words = b" ".join(name for name, _ in parts if name)
-    done = subprocess.run(["bash"], input=b'set -f; printf "%s\\0" ' + words, stdout=subprocess.PIPE)
-    names = iter(done.stdout.split(b"\0"))
+    names = iter(names_read_by_shell(b" ".join(name for name, _ in parts if name)))
     return [(os.fsdecode(next(names, b"?")) if name else "", what) for name, what in parts]
 
 
