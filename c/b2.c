@@ -74,13 +74,13 @@ bool b2_has_argument(const char *name) {
 const char *vulfsjor_library_build(void);
 
 /* What follows the version: the line of dist/MANIFEST for the text of the library that hashes. */
-static int name_build(void) { return puts(vulfsjor_library_build()) < 0 || fflush(stdout) < 0; }
+static int print_library_build(void) { return puts(vulfsjor_library_build()) < 0 || fflush(stdout) < 0; }
 #else
-static int name_build(void) { return 0; }
+static int print_library_build(void) { return 0; }
 #endif
 
-static int end_program(int status) {
-    if (!status && count == 2 && strcmp(arguments[1], "--version") == 0) status = name_build();
+static int finish_program(int status) {
+    if (!status && count == 2 && strcmp(arguments[1], "--version") == 0) status = print_library_build();
     return END(status, count ? arguments[0] : "");
 }
 
@@ -99,7 +99,7 @@ static char *utf8_of(const wchar_t *text) {
 }
 
 /* Cuts off .exe, with which a program may be called by its name or not. */
-static void cut_suffix(char *path) {
+static void cut_exe_suffix(char *path) {
     const size_t length = strlen(path);
 
     if (length >= 4 && !_stricmp(path + length - 4, ".exe")) path[length - 4] = 0;
@@ -110,21 +110,21 @@ int wmain(int argc, wchar_t **argv) {
     arguments = malloc(((size_t)argc + 1) * sizeof *arguments);
     if (!arguments) abort();
     for (count = 0; count < (size_t)argc; count++) arguments[count] = utf8_of(argv[count]);
-    if (count) cut_suffix(arguments[0]);
+    if (count) cut_exe_suffix(arguments[0]);
     for (int file = 0; file <= 2; file++) _setmode(file, _O_BINARY);
-    return end_program(run_main());
+    return finish_program(run_main());
 }
 
 /* At most 2^30 bytes a call, since lengths of Windows have 32 bits. */
-static unsigned size_of_one_call(size_t size) { return size < 1u << 30 ? (unsigned)size : 1u << 30; }
+static unsigned capped_call_size(size_t size) { return size < 1u << 30 ? (unsigned)size : 1u << 30; }
 
 /* read and write of other systems. */
 OF_TEXT ssize_t b2_read(int file, void *bytes, size_t size) {
-    return _read(file, bytes, size_of_one_call(size));
+    return _read(file, bytes, capped_call_size(size));
 }
 
 OF_TEXT ssize_t b2_write(int file, const void *bytes, size_t size) {
-    return _write(file, bytes, size_of_one_call(size));
+    return _write(file, bytes, capped_call_size(size));
 }
 
 /* signal, which has nothing to do: a write to a pipe that nobody reads fails. */
@@ -137,7 +137,7 @@ OF_TEXT void *b2_signal(int signal, void *handler) {
 int main(int argc, char **argv) {
     count = (size_t)argc;
     arguments = argv;
-    return end_program(run_main());
+    return finish_program(run_main());
 }
 #endif
 
@@ -211,7 +211,7 @@ void (*__sysv_signal(int number, void (*handler)(int)))(int) { return signal(num
 #include <cpuid.h>
 
 /* The low half of XCR0: the registers that the system saves. */
-static unsigned saved_registers(void) {
+static unsigned read_xcr0(void) {
     unsigned low, high;
     __asm__ volatile("xgetbv" : "=a"(low), "=d"(high) : "c"(0));
     return low;
@@ -235,7 +235,7 @@ OF_TEXT const struct leaf *__x86_get_cpuid_feature_leaf(unsigned number) {
     if (number > 2 || !__get_cpuid_count(numbers[number], 0, it, it + 1, it + 2, it + 3))
         return &leaf;
     memcpy(leaf.active, leaf.reported, sizeof leaf.active);
-    saves_avx = __get_cpuid(1, &a, &b, &c, &d) && c & OSXSAVE && (saved_registers() & 6) == 6;
+    saves_avx = __get_cpuid(1, &a, &b, &c, &d) && c & OSXSAVE && (read_xcr0() & 6) == 6;
     if (!saves_avx && number == 0) leaf.active[2] &= ~(unsigned)(FMA | AVX | F16C);
     if (!saves_avx && number == 1) leaf.active[1] &= ~(unsigned)AVX2;
     return &leaf;

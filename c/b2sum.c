@@ -68,12 +68,12 @@ __attribute__((noinline)) static void wipe_stack(void) {
 
 /* free and realloc, which leave no secret behind. */
 void b2sum_free(void *place) {
-    if (is_secret) vulfsjor_wipe(place, size_of_block(place));
+    if (is_secret) vulfsjor_wipe(place, heap_block_size(place));
     free(place);
 }
 
 void *b2sum_realloc(void *place, size_t size) {
-    const size_t before = size_of_block(place);
+    const size_t before = heap_block_size(place);
     void *other;
 
     if (!is_secret) return realloc(place, size);
@@ -117,19 +117,19 @@ int _dowildcard = -1;
 /* A console shows lines in UTF-8, and at the end in the code page that it had. */
 static UINT page;
 
-static void restore_page(void) { SetConsoleOutputCP(page); }
+static void restore_code_page(void) { SetConsoleOutputCP(page); }
 
-static BOOL WINAPI is_ended(DWORD event) {
+static BOOL WINAPI restore_page_at_event(DWORD event) {
     (void)event;
-    restore_page();
+    restore_code_page();
     return FALSE;
 }
 
-__attribute__((constructor)) static void use_utf8(void) {
+__attribute__((constructor)) static void set_console_to_utf8(void) {
     page = GetConsoleOutputCP();
     if (!page || !SetConsoleOutputCP(CP_UTF8)) return;
-    atexit(restore_page);
-    SetConsoleCtrlHandler(is_ended, TRUE);
+    atexit(restore_code_page);
+    SetConsoleCtrlHandler(restore_page_at_event, TRUE);
 }
 #endif
 
@@ -137,7 +137,7 @@ __attribute__((constructor)) static void use_utf8(void) {
 static bool is_input_read;
 
 /* The name of the program of this path: what is after the last slash, or b2sum if that is empty. */
-static const char *name_of(const char *path) {
+static const char *program_name_of(const char *path) {
     const char *slash = strrchr(path, '/'), *name = slash ? slash + 1 : path;
 
     return *name ? name : "b2sum";
@@ -146,7 +146,7 @@ static const char *name_of(const char *path) {
 /* Prints that something has failed, and why, as a message of the program of this path. Returns the
  * status for that. */
 static int print_failure(const char *path, const char *what) {
-    dprintf(STDERR_FILENO, "%s: %s: %s\n", name_of(path), what, strerror(errno));
+    dprintf(STDERR_FILENO, "%s: %s: %s\n", program_name_of(path), what, strerror(errno));
     return 1;
 }
 
@@ -157,13 +157,13 @@ static void make_printable(char *name) {
 }
 
 /* Reports who may read the key: others from its file, or other processes from the memory. */
-static void warn_of_readers(const char *path) {
+static void warn_of_key_readers(const char *path) {
     make_printable(shared_key);
     if (*shared_key)
         dprintf(STDERR_FILENO, "%s: WARNING: others may read the key file %s (chmod 600 prevents it)\n",
-                name_of(path), shared_key);
+                program_name_of(path), shared_key);
     if (is_exposed)
-        dprintf(STDERR_FILENO, "%s: WARNING: other processes may read the key\n", name_of(path));
+        dprintf(STDERR_FILENO, "%s: WARNING: other processes may read the key\n", program_name_of(path));
 }
 
 /* Reports who may read the key, and a file that could not be closed. Closes standard input, if it was
@@ -172,7 +172,7 @@ static void warn_of_readers(const char *path) {
  * not open is no error. */
 int b2sum_end(int status, const char *path) {
     if (is_secret) wipe_stack();
-    warn_of_readers(path);
+    warn_of_key_readers(path);
     if ((errno = close_error)) status = print_failure(path, "close error");
     if (is_input_read && close(STDIN_FILENO)) status = print_failure(path, "standard input");
     if (close(STDOUT_FILENO) && errno != EBADF) status = print_failure(path, "write error");
@@ -210,12 +210,12 @@ static void begin_progress(int file, const char *name) {
     make_printable(shown.name);
     shown.length = !fstat(file, &about) && S_ISREG(about.st_mode) ? (uint64_t)about.st_size : 0;
     shown.count = shown.printed = 0;
-    shown.start = milliseconds();
+    shown.start = current_milliseconds();
 }
 
 /* Writes the line of the file, with the MiB per second since its start, as at this later time.
  * Returns its length. */
-static size_t write_progress(char *line, size_t room, uint64_t time) {
+static size_t format_progress_line(char *line, size_t room, uint64_t time) {
     const unsigned long long rate = (shown.count >> 10) * 1000 / (time - shown.start) >> 10;
     size_t length = (size_t)snprintf(line, room, "\r%s: %llu MiB", shown.name,
                                      (unsigned long long)(shown.count >> 20));
@@ -227,30 +227,30 @@ static size_t write_progress(char *line, size_t room, uint64_t time) {
 }
 
 /* Prints the line of the file after half a second, and then ten times a second; or removes it. */
-static void draw_progress(bool is_read) {
+static void draw_or_clear_progress(bool is_read) {
     char line[NAME_BYTES + 80] = "\r\033[K";
     size_t length = strlen(line);
-    const uint64_t time = milliseconds();
+    const uint64_t time = current_milliseconds();
 
     if (is_read && (time - shown.start < 500 || time - shown.printed < 100)) return;
     if (!is_read && !shown.printed) return;
-    if (is_read) length = write_progress(line, sizeof line, time);
+    if (is_read) length = format_progress_line(line, sizeof line, time);
     shown.printed = is_read ? time : 0;
     if (write(STDERR_FILENO, line, length) < 0) shown.printed = 0;
 }
 
 /* Counts what a read of this file has returned. */
-static void count_progress(int file, ssize_t count) {
+static void count_bytes_read(int file, ssize_t count) {
     if (file != shown.file) begin_progress(file, file ? "" : "-");
     if (count > 0) shown.count += (uint64_t)count;
-    draw_progress(count > 0);
+    draw_or_clear_progress(count > 0);
 }
 
 /* ---- Files. */
 
 /* A name that is not UTF-8, or that has a byte 0xF4, comes with each of its bytes from 0x80 on as
  * the character U+10FF00 + byte, which UTF-8 writes in four bytes. This turns these back. */
-static void decode_name(char *name) {
+static void restore_raw_bytes(char *name) {
     const unsigned char *from = (const unsigned char *)name;
     unsigned char *to = (unsigned char *)name;
 
@@ -270,7 +270,7 @@ static bool is_slash(char c) { return c == '/' || c == '\\'; }
 
 /* The length of a word in capitals, if the text begins with it in letters of either case; otherwise
  * 0. */
-static size_t begins_with(const char *text, const char *word) {
+static size_t matched_prefix_length(const char *text, const char *word) {
     size_t i = 0;
 
     for (; word[i]; i++)
@@ -279,21 +279,21 @@ static size_t begins_with(const char *text, const char *word) {
 }
 
 /* The length of the first of these words with which the text begins, or 0. A null ends the words. */
-static size_t begins_with_one(const char *text, const char *const *words) {
+static size_t matched_prefix_length_of_any(const char *text, const char *const *words) {
     size_t length = 0;
 
-    while (*words && !length) length = begins_with(text, *words++);
+    while (*words && !length) length = matched_prefix_length(text, *words++);
     return length;
 }
 
 /* The length of the name of a device of Windows with which the text begins, or 0. */
-static size_t device_length(const char *text) {
+static size_t device_name_length(const char *text) {
     static const char *const devices[] = {"CONIN$", "CONOUT$", "CLOCK$", "CON", "PRN", "AUX", "NUL", NULL},
                       *const ports[] = {"COM", "LPT", NULL},
                       *const digits[] = {"0", "1", "2", "3", "4", "5", "6", "7", "8", "9",
                                          "\xc2\xb9", "\xc2\xb2", "\xc2\xb3", NULL};
-    const size_t length = begins_with_one(text, devices), port = begins_with_one(text, ports),
-                 digit = port ? begins_with_one(text + port, digits) : 0;
+    const size_t length = matched_prefix_length_of_any(text, devices), port = matched_prefix_length_of_any(text, ports),
+                 digit = port ? matched_prefix_length_of_any(text + port, digits) : 0;
 
     return digit ? port + digit : length;
 }
@@ -307,7 +307,7 @@ static bool begins_with_drive(const char *path) {
 /* Whether a path, in UTF-8, can be that of a device or of another computer on Windows: it begins
  * with two slashes or with /?, but not with a drive, or its last part is the name of a device, of
  * which Windows ignores blanks and what follows a dot or a colon. */
-static bool is_foreign(const char *path) {
+static bool is_device_or_remote_path(const char *path) {
     const char *last = path;
     size_t length;
 
@@ -315,7 +315,7 @@ static bool is_foreign(const char *path) {
     if (path[0] && path[1] == ':') last += 2;
     for (const char *c = last; *c; c++)
         if (is_slash(*c)) last = c + 1;
-    length = device_length(last);
+    length = device_name_length(last);
     while (length && last[length] == ' ') length++;
     return length && (!last[length] || last[length] == '.' || last[length] == ':');
 }
@@ -323,7 +323,7 @@ static bool is_foreign(const char *path) {
 /* Moves a file that has the number of a standard stream, which was closed at the start, above those.
  * The stream stays closed, so that a read of it fails. Returns the descriptor, or -1 and sets
  * errno. */
-static int move_up(int file) {
+static int move_above_standard_streams(int file) {
     int low[STDERR_FILENO + 1], count = 0, error;
 
     while (file >= 0 && file <= STDERR_FILENO) {
@@ -361,7 +361,7 @@ typedef struct list {
 static list *lists;
 
 /* The place of the list that has this descriptor, or of the null that ends the lists. */
-static list **place_of_list(int file) {
+static list **find_list_slot(int file) {
     list **place = &lists;
 
     while (*place && (*place)->file != file) place = &(*place)->next;
@@ -370,11 +370,11 @@ static list **place_of_list(int file) {
 
 /* Begins the list of the folder that is open as this file and has this path. Returns the descriptor,
  * or closes it, returns -1 and sets errno. */
-static int begin_list(int file, const char *path) {
+static int open_folder_list(int file, const char *path) {
     list *const it = malloc(sizeof *it);
     int error;
 
-    if (it && begin_folder(&it->folder, file, path)) {
+    if (it && begin_reading_folder(&it->folder, file, path)) {
         it->next = lists;
         it->file = file;
         it->rest = NULL;
@@ -390,14 +390,14 @@ static int begin_list(int file, const char *path) {
 }
 
 /* Whether the list has another byte. After an error it has none: entries may have been left out. */
-static bool has_byte(list *it) {
+static bool has_next_list_byte(list *it) {
     if (it->rest || it->error) return it->rest;
     it->rest = next_entry(&it->folder, &it->kind);
     if (!it->rest) it->error = errno;
     return it->rest;
 }
 
-static char next_byte(list *it) {
+static char take_next_list_byte(list *it) {
     const char byte = it->kind ? it->kind : *it->rest++;
 
     it->kind = 0;
@@ -410,7 +410,7 @@ static char next_byte(list *it) {
 static ssize_t read_list(list *it, char *bytes, size_t size) {
     size_t filled = 0;
 
-    while (filled < size && has_byte(it)) bytes[filled++] = next_byte(it);
+    while (filled < size && has_next_list_byte(it)) bytes[filled++] = take_next_list_byte(it);
     if (filled || !it->error) return (ssize_t)filled;
     errno = it->error;
     return -1;
@@ -427,7 +427,7 @@ static int close_list(list **place) {
 }
 
 OF_TEXT int b2sum_close(int file) {
-    list **const place = place_of_list(file);
+    list **const place = find_list_slot(file);
     const int result = *place ? close_list(place) : close(file);
 
     if (result && !close_error) close_error = errno;
@@ -451,17 +451,17 @@ __attribute__((noinline)) static int open_file(const char *name) {
         return -1;
     }
     strcpy(path, name);
-    decode_name(path);
-    if (HAS_DEVICE_NAMES && is_foreign(path) && !b2_has_argument(path)) {
+    restore_raw_bytes(path);
+    if (HAS_DEVICE_NAMES && is_device_or_remote_path(path) && !b2_has_argument(path)) {
         errno = EACCES;
         return -1;
     }
-    do file = is_list ? open_folder(path) : is_ahead ? open_plain(path, AHEAD_BYTES) : open_path(path);
+    do file = is_list ? open_folder(path) : is_ahead ? open_regular_up_to(path, AHEAD_BYTES) : open_path(path);
     while (file < 0 && errno == EINTR);
-    file = move_up(file);
+    file = move_above_standard_streams(file);
     if (file < 0) return -1;
-    if (is_list) return begin_list(file, path);
-    if (!is_ahead) read_ahead(file);
+    if (is_list) return open_folder_list(file, path);
+    if (!is_ahead) advise_sequential_read(file);
     if (is_key_next && others_may_read(file)) strcpy(shared_key, path);
     if (is_shown) begin_progress(file, path);
     return file;
@@ -480,14 +480,14 @@ OF_TEXT int b2sum_open(const char *name, int flags, ...) {
 
 /* Reads at most size bytes, after a signal again. Returns their number, 0 at the end, or -1 and
  * sets errno. */
-static ssize_t read_piece(int file, void *bytes, size_t size) {
+static ssize_t read_retrying_signals(int file, void *bytes, size_t size) {
     ssize_t count;
     int error;
 
     do count = read_next(file, bytes, size);
     while (count < 0 && errno == EINTR);
     error = errno;
-    if (is_shown) count_progress(file, count);
+    if (is_shown) count_bytes_read(file, count);
     errno = error;
     return count;
 }
@@ -501,13 +501,13 @@ static bool is_filling;
 enum { NOT_ENDED = -1, AT_END = 0 };
 static int ended = NOT_ENDED;
 
-/* As read_piece, but reads until the room is full or the file has ended. */
-static ssize_t read_full(int file, char *bytes, size_t size) {
+/* As read_retrying_signals, but reads until the room is full or the file has ended. */
+static ssize_t read_until_full(int file, char *bytes, size_t size) {
     size_t filled = 0;
     ssize_t count;
 
     do {
-        count = read_piece(file, bytes + filled, size - filled);
+        count = read_retrying_signals(file, bytes + filled, size - filled);
         if (count > 0) filled += (size_t)count;
     } while (count > 0 && filled < size);
     if (!filled) return count;
@@ -516,22 +516,22 @@ static ssize_t read_full(int file, char *bytes, size_t size) {
 }
 
 /* Returns how the file has ended: 0, or -1 and sets errno. */
-static ssize_t end_read(void) {
+static ssize_t take_read_end(void) {
     errno = ended;
     ended = NOT_ENDED;
     return errno == AT_END ? 0 : -1;
 }
 
-/* Reads a list, or else as read_piece, or with is_filling as read_full. */
+/* Reads a list, or else as read_retrying_signals, or with is_filling as read_until_full. */
 OF_TEXT ssize_t b2sum_read(int file, void *bytes, size_t size) {
-    list *const it = *place_of_list(file);
+    list *const it = *find_list_slot(file);
 
     if (is_secret) wipe_stack();
     if (it) return read_list(it, bytes, size);
     if (file == STDIN_FILENO) is_input_read = true;
     is_key_next = false;
-    if (ended != NOT_ENDED) return end_read();
-    return is_filling ? read_full(file, bytes, size) : read_piece(file, bytes, size);
+    if (ended != NOT_ENDED) return take_read_end();
+    return is_filling ? read_until_full(file, bytes, size) : read_retrying_signals(file, bytes, size);
 }
 
 /* ---- Trees. */
@@ -540,7 +540,7 @@ OF_TEXT ssize_t b2sum_read(int file, void *bytes, size_t size) {
 enum { LEAST_BYTES = 1 << 19 };
 
 /* The file's position, if it is a large regular file from there on; otherwise -1. */
-static off_t large_from(int file) {
+static off_t offset_if_large_file(int file) {
     struct stat about;
     off_t from;
 
@@ -550,22 +550,22 @@ static off_t large_from(int file) {
 }
 
 /* Shows that this many bytes were read after those before. */
-static int report_by_threads(void *before, uint64_t count) {
+static int show_thread_progress(void *before, uint64_t count) {
     shown.count = *(const uint64_t *)before + count;
-    draw_progress(true);
+    draw_or_clear_progress(true);
     return 0;
 }
 
 /* Absorbs a large regular file from its position to its end, by this many threads, and moves the
  * position. If it is none, or cannot be read so, nothing changes. */
-static void hash_rest_of_file(int file, unsigned threads, vulfsjor_tree_state *state) {
-    const off_t from = large_from(file);
+static void absorb_rest_by_threads(int file, unsigned threads, vulfsjor_tree_state *state) {
+    const off_t from = offset_if_large_file(file);
     uint64_t before;
 
     if (from < 0) return;
-    if (is_shown) count_progress(file, 0);
+    if (is_shown) count_bytes_read(file, 0);
     before = shown.count;
-    if (!vulfsjor_tree_update_fd(state, file, threads, is_shown ? report_by_threads : NULL, &before)) return;
+    if (!vulfsjor_tree_update_fd(state, file, threads, is_shown ? show_thread_progress : NULL, &before)) return;
     shown.count = before;
     if (lseek(file, from, SEEK_SET) != from) abort();
 }
@@ -582,7 +582,7 @@ HIDDEN OF_TEXT bool b2sum_absorb_proved(ARGUMENTS) __asm__(SYMBOL(PROVED_TREE));
 OF_TEXT bool b2sum_absorb_tree(ARGUMENTS) {
     bool is_whole;
 
-    hash_rest_of_file(file, threads, state);
+    absorb_rest_by_threads(file, threads, state);
     is_filling = true;
     is_whole = b2sum_absorb_proved(source, file, threads, state, room, size);
     is_filling = false;

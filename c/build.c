@@ -18,9 +18,9 @@
 #define BUILD BUILD_arm
 #elif !defined(BUILD)
 unsigned char vulfsjor_ffi_find(void);
-#define BUILD build_of(vulfsjor_ffi_find())
+#define BUILD build_name_of_level(vulfsjor_ffi_find())
 
-static const char *build_of(unsigned char level) {
+static const char *build_name_of_level(unsigned char level) {
     return level == 4 ? BUILD_v4 : level == 3 ? BUILD_v3 : BUILD_v2;
 }
 #endif

@@ -122,7 +122,7 @@ FUNCTION("vulfsjor_ffi_ask", ".hidden vulfsjor_ffi_ask\n",
 
 /* The low half of XCR0: the registers that the system saves. Where OSXSAVE is off there is no such
  * instruction. */
-static unsigned saved_registers(void) {
+static unsigned read_xcr0(void) {
     unsigned low, high;
     __asm__ volatile("xgetbv" : "=a"(low), "=d"(high) : "c"(0));
     return low;
@@ -157,7 +157,7 @@ static unsigned char level_of_processor(void) {
     if ((first & v3) != v3 || !(extended & LZCNT)) return 2;
     if (!__get_cpuid_count(7, 0, &a, &seventh, &b, &d) || (seventh & v3_seventh) != v3_seventh)
         return 2;
-    saved = saved_registers();
+    saved = read_xcr0();
     if ((saved & 0x06) != 0x06) return 2;
     return (seventh & v4_seventh) == v4_seventh && (saved & 0xe6) == 0xe6 ? 4 : 3;
 }

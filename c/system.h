@@ -19,7 +19,7 @@
 #include <unistd.h>
 
 /* Whether this is the name of the folder itself or of the one above, which every folder has. */
-static inline bool is_dots(const char *name) { return !strcmp(name, ".") || !strcmp(name, ".."); }
+static inline bool is_dot_or_dot_dot(const char *name) { return !strcmp(name, ".") || !strcmp(name, ".."); }
 
 #ifndef _WIN32
 #include <dirent.h>
@@ -73,14 +73,14 @@ static inline unsigned start_threads(thread *threads, unsigned count, void *(*fu
 static inline void join_thread(thread it) { pthread_join(it, NULL); }
 
 /* Keeps the caller's thread from being canceled. Returns what ends that. */
-static inline int begin_call(void) {
+static inline int disable_cancellation(void) {
     int before;
 
     pthread_setcancelstate(PTHREAD_CANCEL_DISABLE, &before);
     return before;
 }
 
-static inline void end_call(int before) { pthread_setcancelstate(before, NULL); }
+static inline void restore_cancellation(int before) { pthread_setcancelstate(before, NULL); }
 
 /* The number of processors that the caller's thread may run on. */
 static inline unsigned processor_count(void) {
@@ -123,12 +123,12 @@ static inline ssize_t read_next(int file, void *bytes, size_t size) {
 }
 
 /* Whether this is the path of a descriptor, such as /dev/stdin, which on macOS shares its position. */
-static inline bool is_of_descriptor(const char *path) {
+static inline bool is_descriptor_path(const char *path) {
     return !strncmp(path, "/dev/fd/", 8) || !strncmp(path, "/dev/std", 8);
 }
 
 /* Whether this is a regular file with 1 to most bytes. */
-static inline bool is_plain(const struct stat *about, off_t most) {
+static inline bool is_regular_nonempty_up_to(const struct stat *about, off_t most) {
     return S_ISREG(about->st_mode) && about->st_size >= 1 && about->st_size <= most;
 }
 
@@ -139,7 +139,7 @@ static struct {
 } standard_output;
 
 /* Whether this is the file of standard output. */
-static inline bool is_output(const struct stat *about) {
+static inline bool is_standard_output_file(const struct stat *about) {
     if (!standard_output.is_known) standard_output.is_open = !fstat(STDOUT_FILENO, &standard_output.about);
     standard_output.is_known = true;
     return standard_output.is_open && standard_output.about.st_dev == about->st_dev &&
@@ -149,15 +149,16 @@ static inline bool is_output(const struct stat *about) {
 /* Opens a regular file with 1 to most bytes for reading, which is not standard output. It waits for
  * nothing: a pipe or a device that has meanwhile taken the place of the file is closed again.
  * Returns the descriptor, or -1 and sets errno: to EAGAIN if it is another file. */
-static inline int open_plain(const char *path, off_t most) {
+static inline int open_regular_up_to(const char *path, off_t most) {
     struct stat about;
     int file;
 
     if (stat(path, &about)) return -1;
     errno = EAGAIN;
-    if (!is_plain(&about, most) || is_of_descriptor(path)) return -1;
+    if (!is_regular_nonempty_up_to(&about, most) || is_descriptor_path(path)) return -1;
     file = openat(AT_FDCWD, path, O_RDONLY | O_CLOEXEC | O_NONBLOCK);
-    if (file < 0 || (!fstat(file, &about) && is_plain(&about, most) && !is_output(&about))) return file;
+    if (file < 0 || (!fstat(file, &about) && is_regular_nonempty_up_to(&about, most) &&
+                     !is_standard_output_file(&about))) return file;
     close(file);
     errno = EAGAIN;
     return -1;
@@ -175,7 +176,7 @@ static inline int open_folder(const char *path) {
 
 /* Begins to read the folder that is open as this file and has this path. Returns whether it does;
  * then close_folder closes the file. */
-static inline bool begin_folder(folder *it, int file, const char *path) {
+static inline bool begin_reading_folder(folder *it, int file, const char *path) {
     (void)path;
     return (it->entries = fdopendir(file)) != NULL;
 }
@@ -184,7 +185,7 @@ static inline int close_folder(folder *it) { return closedir(it->entries); }
 
 /* The kind of an entry: d for a folder, f for a regular file or if the system does not know it, and
  * o for all others, such as links, which are not followed. */
-static inline char kind_of(int folder, const char *name) {
+static inline char entry_kind_of(int folder, const char *name) {
     struct stat about;
     int result;
 
@@ -202,14 +203,14 @@ static inline const char *next_entry(folder *it, char *kind) {
     do {
         errno = 0;
         entry = readdir(it->entries);
-    } while (entry ? is_dots(entry->d_name) : errno == EINTR);
+    } while (entry ? is_dot_or_dot_dot(entry->d_name) : errno == EINTR);
     if (!entry) return NULL;
-    *kind = kind_of(dirfd(it->entries), entry->d_name);
+    *kind = entry_kind_of(dirfd(it->entries), entry->d_name);
     return entry->d_name;
 }
 
 /* Tells the system that a file is read from its start to its end. */
-static inline void read_ahead(int file) {
+static inline void advise_sequential_read(int file) {
 #ifdef POSIX_FADV_SEQUENTIAL
     posix_fadvise(file, 0, 0, POSIX_FADV_SEQUENTIAL);
 #else
@@ -227,7 +228,7 @@ static inline bool others_may_read(int file) {
 static inline bool is_terminal(int file) { return isatty(file); }
 
 /* A time in milliseconds. */
-static inline uint64_t milliseconds(void) {
+static inline uint64_t current_milliseconds(void) {
     struct timespec t;
 
     clock_gettime(CLOCK_MONOTONIC, &t);
@@ -235,7 +236,7 @@ static inline uint64_t milliseconds(void) {
 }
 
 /* The number of bytes of a block of memory, or 0 for null. */
-static inline size_t size_of_block(void *place) {
+static inline size_t heap_block_size(void *place) {
 #ifdef __APPLE__
     return malloc_size(place);
 #else
@@ -294,9 +295,9 @@ static inline void join_thread(thread it) {
     CloseHandle(it);
 }
 
-static inline int begin_call(void) { return 0; }
+static inline int disable_cancellation(void) { return 0; }
 
-static inline void end_call(int before) { (void)before; }
+static inline void restore_cancellation(int before) { (void)before; }
 
 static inline unsigned processor_count(void) {
     DWORD_PTR own, all;
@@ -306,7 +307,7 @@ static inline unsigned processor_count(void) {
 }
 
 /* The number that POSIX has for an error of Windows. */
-static inline int number_of(DWORD error) {
+static inline int errno_of_error(DWORD error) {
     switch (error) {
         case ERROR_FILE_NOT_FOUND:
         case ERROR_PATH_NOT_FOUND:
@@ -368,7 +369,7 @@ static inline int open_path(const char *name) {
             const DWORD error = GetLastError(), about = GetFileAttributesW(path);
             const bool is_folder = about != INVALID_FILE_ATTRIBUTES &&
                                    about & FILE_ATTRIBUTE_DIRECTORY;
-            errno = is_folder ? EISDIR : number_of(error);
+            errno = is_folder ? EISDIR : errno_of_error(error);
         } else {
             file = _open_osfhandle((intptr_t)handle, _O_RDONLY | _O_BINARY | _O_NOINHERIT);
             if (file < 0) CloseHandle(handle);
@@ -387,7 +388,7 @@ static inline ssize_t read_handle(int file, void *bytes, size_t size, OVERLAPPED
 
     if (ReadFile((HANDLE)_get_osfhandle(file), bytes, most, &count, place)) return (ssize_t)count;
     if (GetLastError() == ERROR_HANDLE_EOF || GetLastError() == ERROR_BROKEN_PIPE) return 0;
-    errno = number_of(GetLastError());
+    errno = errno_of_error(GetLastError());
     return -1;
 }
 
@@ -411,7 +412,7 @@ static inline ssize_t read_next(int file, void *bytes, size_t size) {
 }
 
 /* No file is read before its turn. */
-static inline int open_plain(const char *path, off_t most) {
+static inline int open_regular_up_to(const char *path, off_t most) {
     (void)path;
     (void)most;
     errno = EAGAIN;
@@ -437,7 +438,7 @@ static inline int open_folder(const char *name) {
     if (path) {
         const DWORD about = GetFileAttributesW(path);
         if (about == INVALID_FILE_ATTRIBUTES) {
-            errno = number_of(GetLastError());
+            errno = errno_of_error(GetLastError());
         } else if (!(about & FILE_ATTRIBUTE_DIRECTORY)) {
             errno = ENOTDIR;
         } else {
@@ -449,7 +450,7 @@ static inline int open_folder(const char *name) {
 }
 
 /* Finds the first entry, by the path of all of them. The root of a drive may have none. */
-static inline bool find_first(folder *it, const char *name, wchar_t *room) {
+static inline bool find_first_entry(folder *it, const char *name, wchar_t *room) {
     const wchar_t *const path = wide_path(name, room);
     DWORD error;
 
@@ -457,12 +458,12 @@ static inline bool find_first(folder *it, const char *name, wchar_t *room) {
     it->entries = FindFirstFileW(path, &it->entry);
     it->is_new = it->entries != INVALID_HANDLE_VALUE;
     error = it->is_new ? 0 : GetLastError();
-    errno = number_of(error);
+    errno = errno_of_error(error);
     return it->is_new || error == ERROR_FILE_NOT_FOUND;
 }
 
 /* The path of all entries of C: is C:/, as those of its entries. */
-static inline bool begin_folder(folder *it, int file, const char *path) {
+static inline bool begin_reading_folder(folder *it, int file, const char *path) {
     const size_t length = strlen(path);
     const bool has_slash = length && strchr("/\\", path[length - 1]);
     wchar_t *const room = malloc(2 * LONGEST_PATH * sizeof *room);
@@ -473,7 +474,7 @@ static inline bool begin_folder(folder *it, int file, const char *path) {
     if (room && all) {
         memcpy(all, path, length);
         strcpy(all + length, has_slash ? "*" : "/*");
-        is_begun = find_first(it, all, room);
+        is_begun = find_first_entry(it, all, room);
     }
     free(all);
     free(room);
@@ -486,7 +487,7 @@ static inline int close_folder(folder *it) {
 }
 
 /* What stands for another path, such as a link or a junction, is neither a folder nor a file. */
-static inline char kind_of(const WIN32_FIND_DATAW *entry) {
+static inline char entry_kind_of(const WIN32_FIND_DATAW *entry) {
     const bool is_reparsed = entry->dwFileAttributes & FILE_ATTRIBUTE_REPARSE_POINT;
 
     if (is_reparsed && IsReparseTagNameSurrogate(entry->dwReserved0)) return 'o';
@@ -499,17 +500,17 @@ static inline const char *next_entry(folder *it, char *kind) {
     if (it->entries == INVALID_HANDLE_VALUE) return NULL;
     do {
         if (!it->is_new && !FindNextFileW(it->entries, &it->entry)) {
-            if (GetLastError() != ERROR_NO_MORE_FILES) errno = number_of(GetLastError());
+            if (GetLastError() != ERROR_NO_MORE_FILES) errno = errno_of_error(GetLastError());
             return NULL;
         }
         it->is_new = false;
         WideCharToMultiByte(CP_UTF8, 0, it->entry.cFileName, -1, it->name, sizeof it->name, NULL, NULL);
-    } while (is_dots(it->name));
-    *kind = kind_of(&it->entry);
+    } while (is_dot_or_dot_dot(it->name));
+    *kind = entry_kind_of(&it->entry);
     return it->name;
 }
 
-static inline void read_ahead(int file) { (void)file; }
+static inline void advise_sequential_read(int file) { (void)file; }
 
 /* Who may read a file is not looked at. */
 static inline bool others_may_read(int file) {
@@ -526,9 +527,9 @@ static inline bool is_terminal(int file) {
            SetConsoleMode(handle, mode | ENABLE_VIRTUAL_TERMINAL_PROCESSING);
 }
 
-static inline uint64_t milliseconds(void) { return GetTickCount64(); }
+static inline uint64_t current_milliseconds(void) { return GetTickCount64(); }
 
-static inline size_t size_of_block(void *place) { return place ? _msize(place) : 0; }
+static inline size_t heap_block_size(void *place) { return place ? _msize(place) : 0; }
 
 static inline bool hide_memory(void) { return true; }
 

@@ -64,7 +64,7 @@ static int read_at(int file, unsigned char *to, size_t length, uint64_t from) {
 }
 
 /* Initializes the state of the first leaf of a part. Returns -1 if its arguments are refused. */
-static int init_leaf(const job *j, vulfsjor_blake2b_state *leaf, const vulfsjor_part *part) {
+static int init_first_leaf(const job *j, vulfsjor_blake2b_state *leaf, const vulfsjor_part *part) {
     const vulfsjor_tree_state *S = j->state;
 
     if (!S)
@@ -82,7 +82,7 @@ static int report_progress(const job *j, uint64_t count) {
 
 /* Counts bytes that were hashed, and reports all of them in the caller's thread. Returns 0 or an
  * error, which may be that of another thread. */
-static int count_bytes(job *j, uint64_t length, int reports) {
+static int count_hashed_bytes(job *j, uint64_t length, int reports) {
     uint64_t count;
     int error;
 
@@ -101,7 +101,7 @@ static int hash_long_leaf(job *j, vulfsjor_part *part, unsigned char *buffer, un
     uint64_t from = j->from + part->start;
     int error;
 
-    if (init_leaf(j, &leaf, part)) return EINVAL;
+    if (init_first_leaf(j, &leaf, part)) return EINVAL;
     for (;;) {
         size_t n = part->length < PART_BYTES ? part->length : PART_BYTES;
         if ((error = read_at(j->file, buffer, n, from))) return error;
@@ -109,7 +109,7 @@ static int hash_long_leaf(job *j, vulfsjor_part *part, unsigned char *buffer, un
         if (n == part->length) break;
         from += n;
         part->length -= n;
-        if ((error = count_bytes(j, n, reports))) return error;
+        if ((error = count_hashed_bytes(j, n, reports))) return error;
     }
     return vulfsjor_blake2b_final(&leaf, out, part->digests_length) ? EINVAL : 0;
 }
@@ -139,7 +139,7 @@ static int hash_part(job *j, vulfsjor_part *part, unsigned char *buffer, size_t 
 
 /* Takes the next part, as soon as there is room for its digests. Returns 0 or an error, which is -1
  * if no part is left. */
-static int take_part(job *j, uint64_t *i, vulfsjor_part *part) {
+static int take_next_part(job *j, uint64_t *i, vulfsjor_part *part) {
     int error;
 
     lock_gate(&j->gate);
@@ -155,7 +155,7 @@ static int take_part(job *j, uint64_t *i, vulfsjor_part *part) {
 }
 
 /* Absorbs the digests that are there of the next parts. Returns 0 or an error. */
-static int absorb_digests(job *j) {
+static int absorb_ready_digests(job *j) {
     unsigned char *there = j->digests + j->rooms * j->room;
     vulfsjor_part part;
 
@@ -173,13 +173,13 @@ static int absorb_digests(job *j) {
 
 /* Absorbs the digests of part i, which are there, as soon as those before are. Returns 0 or an
  * error. */
-static int put_part(job *j, uint64_t i) {
+static int deliver_part_digests(job *j, uint64_t i) {
     int error;
 
     if (j->state) return 0;
     lock_gate(&j->gate);
     j->digests[j->rooms * j->room + i % j->rooms] = 1;
-    error = absorb_digests(j);
+    error = absorb_ready_digests(j);
     wake_all(&j->gate);
     unlock_gate(&j->gate);
     return error;
@@ -195,10 +195,10 @@ static void hash_in_thread(job *j, int reports) {
 
     if (room > MOST_BUFFER_BYTES) room = PART_BYTES;
     if (room && !(buffer = malloc(room))) error = ENOMEM;
-    while (!error && !(error = take_part(j, &i, &part))) {
+    while (!error && !(error = take_next_part(j, &i, &part))) {
         error = hash_part(j, &part, buffer, room, j->digests + i % j->rooms * j->room, reports);
-        if (!error) error = put_part(j, i);
-        if (!error) error = count_bytes(j, part.length, reports);
+        if (!error) error = deliver_part_digests(j, i);
+        if (!error) error = count_hashed_bytes(j, part.length, reports);
     }
     free(buffer);
     if (error <= 0) return;
@@ -214,7 +214,7 @@ static thread_result THREAD_CALL thread_main(void *given) {
 }
 
 /* What a plan of this job depends on. A part of a file has to fit into a buffer. */
-static vulfsjor_limits limits_of(const job *j, unsigned threads) {
+static vulfsjor_limits plan_limits_of(const job *j, unsigned threads) {
     vulfsjor_limits limits = {threads, LEAST_BYTES, PART_BYTES, UINT64_MAX};
     const uint64_t most = (uint64_t)j->leaf_length * PART_LEAVES;
 
@@ -227,14 +227,14 @@ static vulfsjor_limits limits_of(const job *j, unsigned threads) {
 
 /* Makes the plan of a message. Returns -1 if it is too long. */
 static int plan_message(job *j, uint64_t start, uint64_t length, unsigned threads) {
-    vulfsjor_limits limits = limits_of(j, threads);
+    vulfsjor_limits limits = plan_limits_of(j, threads);
 
     return vulfsjor_tree_plan(&j->plan, start, length, j->leaf_length, &limits);
 }
 
 /* Allocates room for digests: of all parts of an update, or of the parts of a message that are not
  * absorbed yet. Returns 0 or an error. */
-static int make_room(job *j) {
+static int allocate_digests(job *j) {
     const uint64_t count = j->plan.part_count, two = 2 * j->plan.threads;
     uint64_t size = j->plan.digests_length;
 
@@ -253,10 +253,10 @@ static int make_room(job *j) {
 
 /* Hashes all parts by the threads of the plan, the caller's among them, and waits for the others.
  * Returns 0, and j->digests are then to be freed, or an error. */
-static int hash_parts(job *j) {
+static int hash_parts_by_threads(job *j) {
     thread others[MOST_THREADS];
     unsigned i, started;
-    int error = make_room(j);
+    int error = allocate_digests(j);
 
     if (error) return error;
     started = start_threads(others, (unsigned)j->plan.threads - 1, thread_main, j);
@@ -268,18 +268,18 @@ static int hash_parts(job *j) {
 
 /* Hashes a message, so that its root has absorbed the digests of all leaves. Returns 0 or an
  * error. */
-static int hash_message(job *j, size_t outlen) {
+static int hash_leaves_into_root(job *j, size_t outlen) {
     int error;
 
     if (vulfsjor_tree_init_root(&j->root, outlen, j->salt, j->saltlen, j->personal, j->personallen,
                                 j->leaf_length))
         return EINVAL;
-    if (!(error = hash_parts(j))) free(j->digests);
+    if (!(error = hash_parts_by_threads(j))) free(j->digests);
     return error;
 }
 
 /* Writes the root of a message that was hashed. Returns 0 or an error. */
-static int write_root(job *j, void *out, size_t outlen) {
+static int finalize_root(job *j, void *out, size_t outlen) {
     return vulfsjor_blake2b_final(&j->root, out, outlen) ? EINVAL : 0;
 }
 
@@ -289,7 +289,7 @@ static int root_of_bytes(job *j, void *out, size_t outlen, size_t inlen, unsigne
 
     if (plan_message(j, 0, inlen, threads)) return EINVAL;
     if (j->plan.threads > 1)
-        return (error = hash_message(j, outlen)) ? error : write_root(j, out, outlen);
+        return (error = hash_leaves_into_root(j, outlen)) ? error : finalize_root(j, out, outlen);
     return vulfsjor_tree_root(out, outlen, j->bytes, inlen, j->salt, j->saltlen, j->personal,
                               j->personallen, j->leaf_length)
                ? EINVAL
@@ -312,7 +312,7 @@ static int fill_buffer(int file, unsigned char *buffer, size_t room, size_t *len
 }
 
 /* Absorbs the file from its position to its end, in this thread. Returns 0 or an error. */
-static int update_by_stream(job *j, vulfsjor_tree_state *S, unsigned char *buffer) {
+static int absorb_stream(job *j, vulfsjor_tree_state *S, unsigned char *buffer) {
     size_t length = PART_BYTES;
     int error = 0;
 
@@ -334,7 +334,7 @@ static int root_of_stream(job *j, void *out, size_t outlen) {
     if (!error && vulfsjor_tree_init(&state, outlen, j->salt, j->saltlen, j->personal,
                                      j->personallen, j->leaf_length))
         error = EINVAL;
-    if (!error) error = update_by_stream(j, &state, buffer);
+    if (!error) error = absorb_stream(j, &state, buffer);
     free(buffer);
     if (!error && vulfsjor_tree_final(&state, out, outlen)) error = EINVAL;
     return error;
@@ -342,7 +342,7 @@ static int root_of_stream(job *j, void *out, size_t outlen) {
 
 /* Whether threads read the rest of the file, and then where it starts and its length. A short file
  * is for one thread anyway, and one of /proc or /sys has another length. Returns 0 or an error. */
-static int find_rest(const job *j, int *by_threads, uint64_t *start, uint64_t *length) {
+static int find_range_for_threads(const job *j, int *by_threads, uint64_t *start, uint64_t *length) {
     struct stat about;
     off_t position;
 
@@ -360,28 +360,28 @@ static int find_rest(const job *j, int *by_threads, uint64_t *start, uint64_t *l
 /* Writes the root of the open file. Returns 0 or an error. */
 static int root_of_file(job *j, void *out, size_t outlen, unsigned threads) {
     uint64_t start, length;
-    int by_threads, error = find_rest(j, &by_threads, &start, &length);
+    int by_threads, error = find_range_for_threads(j, &by_threads, &start, &length);
 
     if (error) return error;
     if (!by_threads) return root_of_stream(j, out, outlen);
     if (plan_message(j, start, length, threads)) return EFBIG;
-    if ((error = hash_message(j, outlen))) return error;
+    if ((error = hash_leaves_into_root(j, outlen))) return error;
     if (lseek(j->file, (off_t)(start + length), SEEK_SET) < 0) return errno;
-    return write_root(j, out, outlen);
+    return finalize_root(j, out, outlen);
 }
 
 /* ---- Updates of a state, which is ready. After an error the state is of no use. */
 
 /* Absorbs the input of the job. Returns 0 or an error. */
-static int absorb_input(job *j, vulfsjor_tree_state *S, size_t inlen, unsigned threads) {
+static int absorb_bytes_by_threads(job *j, vulfsjor_tree_state *S, size_t inlen, unsigned threads) {
     const unsigned char *in = j->bytes;
-    vulfsjor_limits limits = limits_of(j, threads);
+    vulfsjor_limits limits = plan_limits_of(j, threads);
     int error, status;
 
     if (vulfsjor_tree_plan_update(&j->plan, S, inlen, &limits)) return EINVAL;
     if (j->plan.threads <= 1) return vulfsjor_tree_update(S, in, inlen) ? EINVAL : 0;
     if (vulfsjor_tree_update(S, in, j->plan.start)) return EINVAL;
-    if ((error = hash_parts(j))) return error;
+    if ((error = hash_parts_by_threads(j))) return error;
     status = vulfsjor_tree_update_leaves(S, j->digests, j->plan.digests_length, in + j->plan.end,
                                          j->plan.rest_length);
     free(j->digests);
@@ -390,8 +390,8 @@ static int absorb_input(job *j, vulfsjor_tree_state *S, size_t inlen, unsigned t
 
 /* Absorbs this many bytes of digests and then these bytes of the file, in this thread. Returns 0 or an
  * error. */
-static int update_by_one(job *j, vulfsjor_tree_state *S, size_t digests_length, uint64_t at,
-                         uint64_t length, unsigned char *buffer) {
+static int absorb_digests_and_file_bytes(job *j, vulfsjor_tree_state *S, size_t digests_length, uint64_t at,
+                                         uint64_t length, unsigned char *buffer) {
     const uint64_t end = at + length;
     int error;
 
@@ -408,36 +408,36 @@ static int update_by_one(job *j, vulfsjor_tree_state *S, size_t digests_length, 
 
 /* Absorbs the first bytes of the file from j->from on, whose leaves are not too many. Returns 0 or an
  * error. */
-static int update_by_threads(job *j, vulfsjor_tree_state *S, uint64_t length,
-                             const vulfsjor_limits *limits, unsigned char *buffer) {
+static int absorb_file_part_by_threads(job *j, vulfsjor_tree_state *S, uint64_t length,
+                                       const vulfsjor_limits *limits, unsigned char *buffer) {
     const vulfsjor_plan *plan = &j->plan;
     int error;
 
     if (vulfsjor_tree_plan_update(&j->plan, S, length, limits)) return EINVAL;
-    if ((error = update_by_one(j, S, 0, 0, plan->start, buffer))) return error;
-    if (!plan->part_count) return update_by_one(j, S, 0, plan->end, plan->rest_length, buffer);
+    if ((error = absorb_digests_and_file_bytes(j, S, 0, 0, plan->start, buffer))) return error;
+    if (!plan->part_count) return absorb_digests_and_file_bytes(j, S, 0, plan->end, plan->rest_length, buffer);
     j->next = 0;
-    if ((error = hash_parts(j))) return error;
-    error = update_by_one(j, S, plan->digests_length, plan->end, plan->rest_length, buffer);
+    if ((error = hash_parts_by_threads(j))) return error;
+    error = absorb_digests_and_file_bytes(j, S, plan->digests_length, plan->end, plan->rest_length, buffer);
     free(j->digests);
     return error;
 }
 
 /* Absorbs the rest of the open file, by at most MOST_LEAVES leaves at a time. Returns 0 or an
  * error. */
-static int update_by_file(job *j, vulfsjor_tree_state *S, unsigned threads, unsigned char *buffer) {
+static int absorb_rest_of_file(job *j, vulfsjor_tree_state *S, unsigned threads, unsigned char *buffer) {
     const uint64_t most = (uint64_t)j->leaf_length * MOST_LEAVES;
-    const vulfsjor_limits limits = limits_of(j, threads);
+    const vulfsjor_limits limits = plan_limits_of(j, threads);
     uint64_t length, end;
-    int by_threads, error = find_rest(j, &by_threads, &j->from, &length);
+    int by_threads, error = find_range_for_threads(j, &by_threads, &j->from, &length);
 
     if (error) return error;
-    if (!by_threads) return update_by_stream(j, S, buffer);
+    if (!by_threads) return absorb_stream(j, S, buffer);
     if (vulfsjor_tree_plan_update(&j->plan, S, length, &limits)) return EFBIG;
     end = j->from + length;
     while (!error && length) {
         uint64_t n = length < most ? length : most;
-        error = update_by_threads(j, S, n, &limits, buffer);
+        error = absorb_file_part_by_threads(j, S, n, &limits, buffer);
         j->from += n;
         length -= n;
     }
@@ -445,15 +445,15 @@ static int update_by_file(job *j, vulfsjor_tree_state *S, unsigned threads, unsi
 }
 
 /* Whether a tree accepts the arguments of the job. */
-static int is_accepted(const job *j, size_t outlen) {
+static int are_arguments_accepted(const job *j, size_t outlen) {
     return vulfsjor_tree_refused(outlen, j->salt, j->saltlen, j->personal, j->personallen,
                                  j->leaf_length) == VULFSJOR_ARGUMENT_NONE;
 }
 
-/* Ends a call that began with begin_call: a thread that is canceled within one would lose memory,
+/* Ends a call that began with disable_cancellation: a thread that is canceled within one would lose memory,
  * files and threads. */
-static int finish_call(int error, int before) {
-    end_call(before);
+static int return_error_as_errno(int error, int before) {
+    restore_cancellation(before);
     if (error) errno = error;
     return error ? -1 : 0;
 }
@@ -463,11 +463,11 @@ int vulfsjor_tree_root_threads(void *out, size_t outlen, const void *in, size_t 
                                size_t personallen, uint64_t leaf_length, unsigned threads) {
     job j = {NULL, salt, personal, saltlen, personallen, vulfsjor_leaf(leaf_length),
              .bytes = vulfsjor_text(in), .gate = GATE};
-    int before = begin_call(), error = EINVAL;
+    int before = disable_cancellation(), error = EINVAL;
 
-    if (out && (in || !inlen) && is_accepted(&j, outlen))
+    if (out && (in || !inlen) && are_arguments_accepted(&j, outlen))
         error = root_of_bytes(&j, out, outlen, inlen, threads);
-    return finish_call(error, before);
+    return return_error_as_errno(error, before);
 }
 
 int vulfsjor_tree_root_fd(void *out, size_t outlen, int fd, const void *salt, size_t saltlen,
@@ -475,10 +475,10 @@ int vulfsjor_tree_root_fd(void *out, size_t outlen, int fd, const void *salt, si
                           unsigned threads) {
     job j = {NULL, salt, personal, saltlen, personallen, vulfsjor_leaf(leaf_length),
              .file = fd, .gate = GATE};
-    int before = begin_call(), error = EINVAL;
+    int before = disable_cancellation(), error = EINVAL;
 
-    if (out && is_accepted(&j, outlen)) error = root_of_file(&j, out, outlen, threads);
-    return finish_call(error, before);
+    if (out && are_arguments_accepted(&j, outlen)) error = root_of_file(&j, out, outlen, threads);
+    return return_error_as_errno(error, before);
 }
 
 int vulfsjor_tree_root_file(void *out, size_t outlen, const char *path, const void *salt,
@@ -486,28 +486,28 @@ int vulfsjor_tree_root_file(void *out, size_t outlen, const char *path, const vo
                             uint64_t leaf_length, unsigned threads) {
     job j = {NULL, salt, personal, saltlen, personallen, vulfsjor_leaf(leaf_length),
              .file = -1, .gate = GATE};
-    int before = begin_call(), error = EINVAL;
+    int before = disable_cancellation(), error = EINVAL;
 
-    if (out && path && is_accepted(&j, outlen)) {
+    if (out && path && are_arguments_accepted(&j, outlen)) {
         j.file = open_path(path);
         error = j.file < 0 ? errno : root_of_file(&j, out, outlen, threads);
         if (j.file >= 0) close(j.file);
     }
-    return finish_call(error, before);
+    return return_error_as_errno(error, before);
 }
 
 int vulfsjor_tree_update_threads(vulfsjor_tree_state *S, const void *in, size_t inlen,
                                  unsigned threads) {
     vulfsjor_tree_state next;
     job j = {.state = &next, .bytes = vulfsjor_text(in), .gate = GATE};
-    int before = begin_call(), error = EINVAL;
+    int before = disable_cancellation(), error = EINVAL;
 
     if (S && (in || !inlen)) {
         next = *S;
         j.leaf_length = vulfsjor_tree_leaf_length(S);
-        if (!(error = absorb_input(&j, &next, inlen, threads))) *S = next;
+        if (!(error = absorb_bytes_by_threads(&j, &next, inlen, threads))) *S = next;
     }
-    return finish_call(error, before);
+    return return_error_as_errno(error, before);
 }
 
 int vulfsjor_tree_update_fd(vulfsjor_tree_state *S, int fd, unsigned threads,
@@ -516,14 +516,14 @@ int vulfsjor_tree_update_fd(vulfsjor_tree_state *S, int fd, unsigned threads,
     job j = {
         .state = &next, .file = fd, .gate = GATE, .progress = progress, .context = context};
     unsigned char *buffer;
-    int before = begin_call(), error = EINVAL;
+    int before = disable_cancellation(), error = EINVAL;
 
     if (S && (j.leaf_length = vulfsjor_tree_leaf_length(S))) {
         next = *S;
         buffer = malloc(PART_BYTES);
-        error = buffer ? update_by_file(&j, &next, threads, buffer) : ENOMEM;
+        error = buffer ? absorb_rest_of_file(&j, &next, threads, buffer) : ENOMEM;
         free(buffer);
         if (!error) *S = next;
     }
-    return finish_call(error, before);
+    return return_error_as_errno(error, before);
 }

@@ -2,8 +2,8 @@
 // index.d.ts documents the interface.
 
 import {
-  OPTIONS, bytesOf, checkedSettings, flagOf, kindOf, lengthOf, offsetOf, readSettings, refuseMore,
-  settingsOf, takeBytes,
+  OPTIONS, bytesOf, checkedSettings, flagOf, describeValue, lengthOf, offsetOf, readSettings, refuseExtraArguments,
+  settingsOf, toArrayOfBytes,
 } from "./src/arguments.js";
 import { BLAKE2B, Blake2b } from "./src/blake2b.js";
 import { BLAKE2S, Blake2s } from "./src/blake2s.js";
@@ -31,15 +31,15 @@ export {
 // The functions that are called for short messages count their arguments, so that no array of those
 // beyond the last is made.
 function hashOne(kind, caller, message, options, count) {
-  refuseMore(count - 2, caller, 2);
+  refuseExtraArguments(count - 2, caller, 2);
   const bytes = bytesOf(message, caller, "message");
   return hash(kind, bytes, settingsOf(kind, options, caller));
 }
 
 function hashSeveral(kind, caller, messages, options, rest) {
-  refuseMore(rest.length, caller, 2);
+  refuseExtraArguments(rest.length, caller, 2);
   const [, read] = readSettings(kind, options, caller, OPTIONS.basic);
-  const given = takeBytes(messages, caller, "message");
+  const given = toArrayOfBytes(messages, caller, "message");
   const settings = checkedSettings(kind, read, caller); // again, after code of the caller
   return hashMany(kind, given.map((message, i) => bytesOf(message, caller, `message ${i}`)), settings);
 }
@@ -68,7 +68,7 @@ export function treeRoot(message, options) {
 const LIMIT = 2n ** 58n;
 
 export function treeLeaves(message, options, ...rest) {
-  refuseMore(rest.length, "treeLeaves", 2);
+  refuseExtraArguments(rest.length, "treeLeaves", 2);
   const bytes = bytesOf(message, "treeLeaves", "message");
   const [settings, { first, ends }] = readSettings(TREE, options, "treeLeaves", OPTIONS.leaves);
   for (const [name, value] of [["first", first], ["ends", ends]]) {
@@ -95,7 +95,7 @@ export function treeLeaves(message, options, ...rest) {
 }
 
 export function treeRootOfLeaves(digests, options, ...rest) {
-  refuseMore(rest.length, "treeRootOfLeaves", 2);
+  refuseExtraArguments(rest.length, "treeRootOfLeaves", 2);
   const bytes = bytesOf(digests, "treeRootOfLeaves", "digests");
   const settings = settingsOf(TREE, options, "treeRootOfLeaves");
   const length = lengthOf(bytes);
@@ -136,19 +136,19 @@ export function treeRootStream(source, options, ...rest) {
 }
 
 export function build(...rest) {
-  refuseMore(rest.length, "build", 0);
+  refuseExtraArguments(rest.length, "build", 0);
   return line;
 }
 
 export function equal(a, b, ...rest) {
-  refuseMore(rest.length, "equal", 2);
+  refuseExtraArguments(rest.length, "equal", 2);
   return isSame(BLAKE2B, bytesOf(a, "equal", "a"), bytesOf(b, "equal", "b"));
 }
 
 // hex, utf8 and fromHex ignore further arguments, so that map() can call them.
 export function utf8(text) {
   if (typeof text !== "string") {
-    throw new TypeError(`utf8: text must be a string, not ${kindOf(text)}`);
+    throw new TypeError(`utf8: text must be a string, not ${describeValue(text)}`);
   }
   // the encoder would replace each by U+FFFD, so that different strings had equal bytes
   if (/\p{Surrogate}/u.test(text)) {
@@ -159,7 +159,7 @@ export function utf8(text) {
 
 export function fromHex(text) {
   if (typeof text !== "string") {
-    throw new TypeError(`fromHex: text must be a string, not ${kindOf(text)}`);
+    throw new TypeError(`fromHex: text must be a string, not ${describeValue(text)}`);
   }
   if (text.length % 2 !== 0 || /[^0-9a-fA-F]/.test(text)) {
     throw new RangeError("fromHex: text must be an even number of hexadecimal digits");

@@ -71,7 +71,7 @@ LINKING = {"linux": ["-fPIC", "-shared", "-pthread", "-Wl,--gc-sections", "-Wl,-
 WITHOUT_GIL = bool(sysconfig.get_config_var("Py_GIL_DISABLED"))
 
 
-def refuse(why):
+def exit_with_error(why):
     """Ends the program."""
     sys.exit(f"build_package.py: {why}")
 
@@ -84,14 +84,14 @@ def source_files(shared=SHARED):
     for name, place in shared.items():
         found[name] = HERE / name if is_released else HERE.parent / place
         if not found[name].is_file():
-            refuse(f"{name if is_released else f'../{place}'} is missing: build in a clone of the "
-                   "repository, since the package shares files with c/ and dist/, or from a source "
-                   "distribution")
-    check_dist(found, is_released)
+            exit_with_error(f"{name if is_released else f'../{place}'} is missing: build in a clone of the "
+                            "repository, since the package shares files with c/ and dist/, or from a source "
+                            "distribution")
+    check_file_is_as_in_manifest(found, is_released)
     return found
 
 
-def check_dist(found, is_released):
+def check_file_is_as_in_manifest(found, is_released):
     """Refuses a file that is not the one that MANIFEST names, such as ../c/choose.c. A source distribution has some of
     them."""
     lines = found["src/MANIFEST"].read_text(encoding="utf-8").splitlines()
@@ -103,12 +103,12 @@ def check_dist(found, is_released):
                   if place.startswith("dist/") or (HERE.parent / place).is_file()}
     for place, path in texts.items():
         if not path.is_file() or hashlib.sha256(path.read_bytes()).hexdigest() != named.get(place):
-            refuse(f"{place} is not as in dist/MANIFEST, so it is not what was tested")
+            exit_with_error(f"{place} is not as in dist/MANIFEST, so it is not what was tested")
 
 
 # ---- The module
 
-def target():
+def target_platform():
     """The system that the module is for, its processor if dist/ has a text for that, and the compiler's options.
     Linux and other systems with ELF get portable C on other processors, in a Python of 32 bits, and if
     VULFSJOR_PORTABLE is set."""
@@ -118,8 +118,8 @@ def target():
     if not re.match("macosx|mingw|win", platform) and (not found or os.environ.get("VULFSJOR_PORTABLE")):
         return "linux", None, LINKING["linux"]
     if not found:
-        refuse("vulfsjor is assembly for Linux, macOS and Windows on x86-64 and on 64-bit ARM, and "
-               f"has none for {platform}")
+        exit_with_error("vulfsjor is assembly for Linux, macOS and Windows on x86-64 and on 64-bit ARM, and "
+                        f"has none for {platform}")
     system, version, x86, arm = found.groups()
     if system not in LINKING:
         system = "windows"
@@ -129,18 +129,19 @@ def target():
     return system, "x86_64" if x86 else "aarch64", options
 
 
-def library(system, processor, work):
+def library_source_words(system, processor, work):
     """The words of the compiler for the sources of the library in a folder. The texts become one, which is marked for
     branch protection and needs no preprocessor: that would take as long as the assembler."""
     if not processor:
-        return ["-DVULFSJOR_PORTABLE", "src/build.c", "src/portable.c", line_of(work, "c/vulfsjor.c")]
+        return ["-DVULFSJOR_PORTABLE", "src/build.c", "src/portable.c", manifest_line_word(work, "c/vulfsjor.c")]
     macros, *texts = (pathlib.Path(work, "src", name).read_bytes()
                       for name in [f"{processor}/{MACROS[system]}", *TEXTS[processor]])
     pathlib.Path(work, "src", "vulfsjor.s").write_bytes(b"".join([macros, b"\tvj_marks\n", *texts]))
-    return ["src/build.c", "src/choose.c", "src/vulfsjor.s", *(line_of(work, text) for text in TEXTS[processor])]
+    return ["src/build.c", "src/choose.c", "src/vulfsjor.s",
+            *(manifest_line_word(work, text) for text in TEXTS[processor])]
 
 
-def line_of(work, text):
+def manifest_line_word(work, text):
     """The word of the compiler for the line of MANIFEST that names a text."""
     lines = pathlib.Path(work, "src", "MANIFEST").read_text(encoding="utf-8").splitlines()
     line = next(line for line in lines if line.endswith(f"  {text}"))
@@ -148,19 +149,19 @@ def line_of(work, text):
     return f'-DBUILD{build}="{line}"'
 
 
-def compiler(system):
+def compiler_words(system):
     """The words of the C compiler: CC, or that of this Python, or cc or gcc."""
     asked = os.environ.get("CC")
     for words in [asked] if asked else [sysconfig.get_config_var("CC"), "cc", "gcc"]:
         if words and shutil.which(shlex.split(words)[0]):
             if pathlib.Path(shlex.split(words)[0]).stem.lower() == "cl":
-                refuse("MSVC cannot assemble the code of vulfsjor: set CC to the GCC of MinGW-w64")
+                exit_with_error("MSVC cannot assemble the code of vulfsjor: set CC to the GCC of MinGW-w64")
             return shlex.split(words)
-    refuse(f"there is no C compiler{f' {asked}' if asked else ''}: install GCC"
-           f"{' of MinGW-w64' if system == 'windows' else ' or Clang'}, or set CC")
+    exit_with_error(f"there is no C compiler{f' {asked}' if asked else ''}: install GCC"
+                    f"{' of MinGW-w64' if system == 'windows' else ' or Clang'}, or set CC")
 
 
-def module_name():
+def module_file_name():
     """The name of the module's file. With the GIL it is for each later CPython too."""
     if WITHOUT_GIL:
         return f"_library{sysconfig.get_config_var('EXT_SUFFIX')}"
@@ -168,26 +169,26 @@ def module_name():
         "_library.abi3.so")
 
 
-def compiled(files):
+def compile_module(files):
     """The bytes of the module, from these files."""
-    system, processor, options = target()
+    system, processor, options = target_platform()
     includes = {sysconfig.get_path("include"), sysconfig.get_path("platinclude")}
     with tempfile.TemporaryDirectory() as work:
         for name, path in files.items():
             if name.startswith("src/"):
                 os.makedirs(os.path.dirname(f"{work}/{name}"), exist_ok=True)
                 shutil.copyfile(path, f"{work}/{name}")
-        made = os.path.join(work, module_name())
+        made = os.path.join(work, module_file_name())
         done = subprocess.run(
-            [*compiler(system), *COMPILING, f"-fdebug-prefix-map={work}=.",
+            [*compiler_words(system), *COMPILING, f"-fdebug-prefix-map={work}=.",
              *(f"-I{folder}" for folder in sorted(includes)),
              *(["-DPy_GIL_DISABLED=1"] if WITHOUT_GIL else []),
              *shlex.split(os.environ.get("CFLAGS", "")), *options, "-o", made, *MODULE,
-             *library(system, processor, work), *shlex.split(os.environ.get("LDFLAGS", "")),
+             *library_source_words(system, processor, work), *shlex.split(os.environ.get("LDFLAGS", "")),
              *(["-lpython3"] if system == "windows" else [])], cwd=work, check=False)
         if done.returncode:
             has_headers = any(os.path.exists(f"{folder}/Python.h") for folder in includes)
-            refuse("the compiler failed" + ("" if has_headers else
+            exit_with_error("the compiler failed" + ("" if has_headers else
                    ": Python.h is missing; install the headers, such as Debian's python3-dev"))
         with open(made, "rb") as file:
             return file.read()
@@ -195,7 +196,7 @@ def compiled(files):
 
 # ---- What describes the package
 
-def metadata():
+def metadata_bytes():
     """The bytes of METADATA and of PKG-INFO."""
     lines = ["Metadata-Version: 2.1", f"Name: {PROJECT['name']}", f"Version: {PROJECT['version']}",
              f"Summary: {PROJECT['description']}", f"Keywords: {','.join(PROJECT['keywords'])}",
@@ -206,26 +207,26 @@ def metadata():
     return "\n".join(lines).encode()
 
 
-def tag():
+def wheel_tag():
     """The versions, the interface and the platform that a wheel is for."""
     here = f"cp{sys.version_info.major}{sys.version_info.minor}"
     platform = re.sub(r"\W", "_", os.environ.get("VULFSJOR_WHEEL_PLATFORM") or sysconfig.get_platform())
     return f"{f'{here}-{here}t' if WITHOUT_GIL else 'cp311-abi3'}-{platform}"
 
 
-def about_wheel():
+def wheel_description_files():
     """The files that describe a wheel, except RECORD."""
-    kind = f"Wheel-Version: 1.0\nGenerator: {RELEASE}\nRoot-Is-Purelib: false\nTag: {tag()}\n"
-    return {f"{ABOUT}/METADATA": metadata(), f"{ABOUT}/WHEEL": kind.encode()}
+    kind = f"Wheel-Version: 1.0\nGenerator: {RELEASE}\nRoot-Is-Purelib: false\nTag: {wheel_tag()}\n"
+    return {f"{ABOUT}/METADATA": metadata_bytes(), f"{ABOUT}/WHEEL": kind.encode()}
 
 
 def write_wheel(folder, files):
     """Writes a wheel with these files. The same files make the same wheel."""
-    files = sorted({**files, **about_wheel()}.items())
+    files = sorted({**files, **wheel_description_files()}.items())
     record = [f"{name},sha256={base64.urlsafe_b64encode(hashlib.sha256(data).digest()).decode()[:-1]}"
               f",{len(data)}" for name, data in files]
     files.append((f"{ABOUT}/RECORD", "\n".join([*record, f"{ABOUT}/RECORD,,", ""]).encode()))
-    name = f"{RELEASE}-{tag()}.whl"
+    name = f"{RELEASE}-{wheel_tag()}.whl"
     with zipfile.ZipFile(os.path.join(folder, name), "w") as wheel:
         for path, data in files:
             info = zipfile.ZipInfo(path)  # whose time is that of 1980
@@ -240,7 +241,7 @@ def prepare_metadata_for_build_wheel(metadata_directory, config_settings=None):
     """Writes what describes a wheel, without a build."""
     del config_settings
     os.mkdir(os.path.join(metadata_directory, ABOUT))
-    for name, data in about_wheel().items():
+    for name, data in wheel_description_files().items():
         pathlib.Path(metadata_directory, name).write_bytes(data)
     return ABOUT
 
@@ -250,7 +251,7 @@ def build_wheel(wheel_directory, config_settings=None, metadata_directory=None):
     del config_settings, metadata_directory
     found = source_files()
     files = {name: path.read_bytes() for name, path in found.items() if name.startswith("vulfsjor/")}
-    return write_wheel(wheel_directory, {**files, f"vulfsjor/{module_name()}": compiled(found)})
+    return write_wheel(wheel_directory, {**files, f"vulfsjor/{module_file_name()}": compile_module(found)})
 
 
 prepare_metadata_for_build_editable = prepare_metadata_for_build_wheel
@@ -259,14 +260,14 @@ prepare_metadata_for_build_editable = prepare_metadata_for_build_wheel
 def build_editable(wheel_directory, config_settings=None, metadata_directory=None):
     """Writes the module to this folder's package, and makes a wheel that points to this folder."""
     del config_settings, metadata_directory
-    (HERE / "vulfsjor" / module_name()).write_bytes(compiled(source_files()))
+    (HERE / "vulfsjor" / module_file_name()).write_bytes(compile_module(source_files()))
     return write_wheel(wheel_directory, {f"{PROJECT['name']}.pth": os.fsencode(HERE) + b"\n"})
 
 
 def build_sdist(sdist_directory, config_settings=None):
     """Makes a source distribution. The same files make the same one."""
     del config_settings
-    files = {"PKG-INFO": metadata(),
+    files = {"PKG-INFO": metadata_bytes(),
              **{name: path.read_bytes() for name, path in source_files({**SHARED, **FOR_TESTS}).items()}}
     name = f"{RELEASE}.tar.gz"
     with open(os.path.join(sdist_directory, name), "wb") as file, \

@@ -24,7 +24,7 @@ print(sys.executable if sys.version_info >= (3, 11) and
 done
 
 # The module, by the first interpreter that can build it. Status 77: none can.
-build() {
+build_module() {
     local each status=77
     for each in "${interpreters[@]}"; do
         "$each" "$tests/support.py" "$VULFSJOR_PACKAGE"
@@ -35,26 +35,26 @@ build() {
 }
 
 # The version of Python that an interpreter is, such as 3.11.
-version_of() { "$1" -c 'import sys; print("%d.%d" % sys.version_info[:2])'; }
+python_version_of() { "$1" -c 'import sys; print("%d.%d" % sys.version_info[:2])'; }
 
 # The names of the tests that were skipped, and why. Where a test has a doc comment, its name is on
 # the line above.
-skipped_tests() {
+skipped_test_names_and_reasons() {
     awk '/^test_/ { name = $1 }
         sub(/.* \.\.\. skipped /, "") { print name "|" substr($0, 2, length($0) - 2) }' "$work/log"
 }
 
-build >"$work/built" 2>&1
+build_module >"$work/built" 2>&1
 case $? in
     0) pass "the package for Python is built" ;;
     77) skip "the package for Python" "no cc, no python3 or no Python.h"; finish ;;
     *) fail "the package for Python is built" "$work/built"; finish ;;
 esac
-last=$(version_of "${interpreters[-1]}")
+last=$(python_version_of "${interpreters[-1]}")
 for each in "${interpreters[@]}"; do
     if [ "$each" = "${interpreters[-1]}" ] || [ -n "${VULFSJOR_TEST_HUGE-}" ]; then
         some=()
-    elif [ "$(version_of "$each")" = "$last" ]; then
+    elif [ "$(python_version_of "$each")" = "$last" ]; then
         skip "the tests in $each" "VULFSJOR_TEST_HUGE is not set" && continue
     else
         some=(-ktest_{against_hashlib,api,conformance,files,names,refusals,threads,update_many})
@@ -62,7 +62,7 @@ for each in "${interpreters[@]}"; do
     check "the tests in $each" in_time "$each" -m unittest discover -v -s "$tests" "${some[@]}"
     while IFS='|' read -r test why; do
         skip "$test in $each" "$why"
-    done < <(skipped_tests)
+    done < <(skipped_test_names_and_reasons)
 done
 check "wrong uses in Python" env "PYTHONPATH=$VULFSJOR_PACKAGE" "${interpreters[-1]}" "$top/tests/misuse/run.py" python
 finish

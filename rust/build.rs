@@ -6,7 +6,8 @@ fn main() {
     let dist = Path::new(&env::var_os("CARGO_MANIFEST_DIR").expect("the folder of the crate")).join("dist");
     let manifest = fs::read_to_string(dist.join("MANIFEST")).expect("dist/MANIFEST");
     println!("cargo:rerun-if-changed=dist/MANIFEST");
-    for (sum, name) in manifest.lines().filter_map(|line| line.split_once("  ")).filter(|(_, name)| is_used(name)) {
+    let lines = manifest.lines().filter_map(|line| line.split_once("  "));
+    for (sum, name) in lines.filter(|(_, name)| is_file_compiled(name)) {
         let path = format!("dist/{name}").replace("dist/../", "");
         println!("cargo:rerun-if-changed={path}");
         if fs::read(dist.join(name)).map(|file| sha256(&file)).ok().as_deref() != Some(sum) {
@@ -17,12 +18,12 @@ fn main() {
 }
 
 /// Whether the crate compiles this file, by its name in MANIFEST: a text of the library, its macros, or Rust.
-fn is_used(name: &str) -> bool {
+fn is_file_compiled(name: &str) -> bool {
     name.ends_with(".inc") || name.ends_with(".rs") || name.ends_with(".s") && name.contains("/vulfsjor")
 }
 
 /// The first 32 bits after the point of the root of this degree of a prime.
-fn fraction(prime: u64, degree: u32) -> u32 {
+fn fractional_root_bits(prime: u64, degree: u32) -> u32 {
     let target = u128::from(prime) << (32 * degree);
     let mut root = 0_u128;
     for bit in (0..36).rev() {
@@ -36,8 +37,8 @@ fn fraction(prime: u64, degree: u32) -> u32 {
 /// The SHA-256 of these bytes (FIPS 180-4), in hexadecimal.
 fn sha256(bytes: &[u8]) -> String {
     let primes: Vec<u64> = (2..312).filter(|n| (2..*n).all(|d| n % d != 0)).collect();
-    let k: Vec<u32> = primes.iter().map(|prime| fraction(*prime, 3)).collect();
-    let mut h: Vec<u32> = primes.iter().take(8).map(|prime| fraction(*prime, 2)).collect();
+    let k: Vec<u32> = primes.iter().map(|prime| fractional_root_bits(*prime, 3)).collect();
+    let mut h: Vec<u32> = primes.iter().take(8).map(|prime| fractional_root_bits(*prime, 2)).collect();
     let mut padded = bytes.to_vec();
     padded.push(0x80);
     padded.resize((bytes.len() + 72) / 64 * 64 - 8, 0);

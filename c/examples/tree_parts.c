@@ -79,7 +79,7 @@ static int write_leaves(const char *path, uint64_t first, uint64_t count) {
 }
 
 /* The root is a node over the digests, which need not be in memory at the same time. */
-static int print_root(const char *path) {
+static int print_root_over_digests(const char *path) {
     static unsigned char piece[1 << 16];
     vulfsjor_blake2b_state root;
     unsigned char out[VULFSJOR_BLAKE2B_OUTBYTES];
@@ -116,7 +116,7 @@ int main(int count, char **arguments) {
     if (count == 5 && !strcmp(arguments[1], "leaves") && !read_number(arguments[3], &first) &&
         !read_number(arguments[4], &leaves) && leaves)
         return write_leaves(arguments[2], first, leaves);
-    if (count == 3 && !strcmp(arguments[1], "root")) return print_root(arguments[2]);
+    if (count == 3 && !strcmp(arguments[1], "root")) return print_root_over_digests(arguments[2]);
     fputs("usage: tree_parts leaves FILE FIRST COUNT, or tree_parts root FILE\n", stderr);
     return 2;
 }

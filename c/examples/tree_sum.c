@@ -18,7 +18,7 @@
 #include <string.h>
 #include <unistd.h>
 
-static int usage(FILE *to, int status) {
+static int print_usage(FILE *to, int status) {
     fputs("usage: tree_sum [--threads N] [--leaf BYTES] [FILE..]\n", to);
     return status;
 }
@@ -63,10 +63,10 @@ int main(int count, char **arguments) {
     int option, status = 0;
 
     while ((option = getopt_long(count, arguments, "", options, NULL)) != -1) {
-        if (option == 'h') return usage(stdout, 0);
+        if (option == 'h') return print_usage(stdout, 0);
         if (option == 't' && !read_number(optarg, 0, &threads)) continue;
         if (option == 'l' && !read_number(optarg, 1, &leaf)) continue;
-        return usage(stderr, 2);
+        return print_usage(stderr, 2);
     }
     if (optind == count) status = print_root("-", leaf, threads);
     for (int i = optind; i < count; i++) status |= print_root(arguments[i], leaf, threads);

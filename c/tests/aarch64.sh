@@ -23,9 +23,9 @@ cc() {
 
 # Branch protection: each object is marked, so a program is without a demand, and a linker that demands
 # marks takes them. On a processor that enforces it, calls through pointers return.
-protected_by_bti() {
+bti_marks_are_enforced() {
     local words=(-O1 -mbranch-protection=bti -ffreestanding -fno-stack-protector -nostdlib -static -I"$include")
-    are_marked "AArch64 feature: BTI" aarch64-linux-gnu- "$prefix"/lib/libvulfsjor{,-libb2,-threads}.a &&
+    objects_have_mark "AArch64 feature: BTI" aarch64-linux-gnu- "$prefix"/lib/libvulfsjor{,-libb2,-threads}.a &&
         "$arm" "${words[@]}" "${warnings[@]}" -Wl,-z,force-bti -Wl,--fatal-warnings -Wl,--gc-sections \
             "$tests/bti.c" "$archive" -o "$work/forced" && qemu-aarch64 -cpu max "$work/forced" &&
         "$arm" "${words[@]}" -Wl,--gc-sections "$tests/bti.c" "$archive" -o "$work/marked" &&
@@ -34,7 +34,7 @@ protected_by_bti() {
 }
 
 # The programs, whose objects are marked too, except those of the C library.
-programs_are_marked() {
+programs_have_bti_marks() {
     local name
     for name in b2 b2sum; do
         CC=$arm CFLAGS=$quick LDFLAGS=-Wl,-z,force-bti "$top/$name" --build "$work/bti_$name" 2>"$work/said" || return 1
@@ -43,13 +43,13 @@ programs_are_marked() {
 }
 
 # The program of dist/ for aarch64, by this many cases of each command.
-program_for_arm() {
+b2_matches_model_on_arm() {
     assemble "$dist/aarch64/b2.s" "$work/b2" "${warnings[@]}" &&
         python3 "$top/tests/compare_b2_model.py" --program "$work/b2" --cases "$1"
 }
 
 # The program b2sum of dist/ for aarch64: a digest, a check and a root by several threads.
-b2sum_for_arm() {
+b2sum_works_on_arm() {
     assemble "$dist/aarch64/b2sum.s" "$work/b2sum" "${warnings[@]}" && cd "$work" &&
         head -c 3000000 /dev/zero >zeros && ./b2sum zeros | diff - <(sums_by_hashlib zeros) &&
         sums_by_hashlib zeros | ./b2sum --check --strict &&
@@ -58,15 +58,15 @@ b2sum_for_arm() {
 }
 
 # The processor is emulated, so that only the full test runs all conformance cases.
-a_sixth_of_the_cases() {
+keep_a_sixth_of_cases() {
     local hash
     for hash in "${hashes[@]}"; do
-        some_cases "$hash" 6 && mkdir -p "$work/sixth" && mv "$work/some_$hash" "$work/sixth/$hash.txt"
+        write_every_nth_case "$hash" 6 && mkdir -p "$work/sixth" && mv "$work/some_$hash" "$work/sixth/$hash.txt"
     done
     conforming=$work/sixth
 }
 
-test_aarch64() {
+test_library_on_aarch64() {
     local hash
     if ! has_compiler "$arm" || ! has qemu-aarch64 || ! has python3; then
         skip "the library for aarch64" "no $arm with a C library, no qemu-aarch64 or no python3"
@@ -77,29 +77,31 @@ test_aarch64() {
     check "install.sh with CC=$arm" env "CC=$arm" "CFLAGS=$quick" "$here/install.sh" --from "$dist" "$prefix" ||
         return
     local some=
-    [ -n "${VULFSJOR_TEST_HUGE-}" ] || { a_sixth_of_the_cases && some=-DTEST_SOME; }
+    [ -n "${VULFSJOR_TEST_HUGE-}" ] || { keep_a_sixth_of_cases && some=-DTEST_SOME; }
     for hash in "${hashes[@]}"; do
-        check "conformance.c, $hash, for aarch64" run_hash conformance $hash -O1 $some "$archive"
-        check_huge "made_states.c, $hash, for aarch64" run_hash made_states $hash -O1 "$archive"
-        check_huge "conformance.c, $hash, for aarch64, with the shared library" run_hash conformance $hash -O1 "$shared"
+        check "conformance.c, $hash, for aarch64" compile_and_run_hash_test conformance $hash -O1 $some "$archive"
+        check_huge "made_states.c, $hash, for aarch64" compile_and_run_hash_test made_states $hash -O1 "$archive"
+        check_huge "conformance.c, $hash, for aarch64, with the shared library" compile_and_run_hash_test conformance \
+            $hash -O1 "$shared"
     done
     for family in b s; do
-        check "edge_cases.c, blake2$family, for aarch64" edge_cases -O2
-        check_once "key_scan.c, blake2$family, for aarch64" scan_for_keys
-        check_once "libb2's names, blake2$family, for aarch64" names_of_libb2 $family "$prefix/lib/libvulfsjor-libb2.a"
+        check "edge_cases.c, blake2$family, for aarch64" edge_cases_pass -O2
+        check_family_once "key_scan.c, blake2$family, for aarch64" calls_leave_no_keys
+        check_family_once "libb2's names, blake2$family, for aarch64" run_libb2_names_test $family \
+            "$prefix/lib/libvulfsjor-libb2.a"
     done
     for family in bp sp xb xs; do
-        check_once "key_scan.c, blake2$family, for aarch64" scan_for_keys
+        check_family_once "key_scan.c, blake2$family, for aarch64" calls_leave_no_keys
     done
-    check "calls of a constructor and of threads, for aarch64" first_calls
-    check "hidden names, for aarch64" names_are_hidden "$archive" "$include" "$arm"
-    check "branch protection, for aarch64" protected_by_bti
-    check "marks of the programs, for aarch64" programs_are_marked
-    check "tree_parts.c, for aarch64" parts_with "$(turns 500)" -O2
-    check_huge "the program c/examples/tree_sum.c, for aarch64" tree_sum_example
-    check_huge "a project with the files by hand, for aarch64" vendored_by_hand
-    check "b2 for aarch64" program_for_arm $([ -n "${VULFSJOR_TEST_HUGE-}" ] && echo 40 || echo 8)
-    check "b2sum for aarch64" b2sum_for_arm
+    check "calls of a constructor and of threads, for aarch64" first_calls_work_from_any_thread
+    check "hidden names, for aarch64" archive_names_stay_hidden "$archive" "$include" "$arm"
+    check "branch protection, for aarch64" bti_marks_are_enforced
+    check "marks of the programs, for aarch64" programs_have_bti_marks
+    check "tree_parts.c, for aarch64" tree_part_edges_pass "$(random_turn_count 500)" -O2
+    check_huge "the program c/examples/tree_sum.c, for aarch64" tree_sum_example_matches_hashlib
+    check_huge "a project with the files by hand, for aarch64" sources_build_in_project_by_hand
+    check "b2 for aarch64" b2_matches_model_on_arm $([ -n "${VULFSJOR_TEST_HUGE-}" ] && echo 40 || echo 8)
+    check "b2sum for aarch64" b2sum_works_on_arm
 }
 
-part test_aarch64 cases
+run_part_of_tests test_library_on_aarch64 cases

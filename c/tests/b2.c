@@ -17,13 +17,13 @@ static int asked_file, returned;
 static const void *asked_bytes;
 static unsigned asked_length;
 
-static int record_call(int file, const void *bytes, unsigned size) {
+static int record_io_call(int file, const void *bytes, unsigned size) {
     asked_file = file, asked_bytes = bytes, asked_length = size;
     return returned;
 }
 
-#define _read record_call
-#define _write record_call
+#define _read record_io_call
+#define _write record_io_call
 #endif
 
 /* The last size that was requested from the C library, the number of calls of free, the last
@@ -32,25 +32,25 @@ static size_t asked, freed;
 static void *last_freed;
 static bool refuses;
 
-static void *note_malloc(size_t size) {
+static void *counted_malloc(size_t size) {
     asked = size;
     return refuses ? NULL : malloc(size);
 }
 
-static void *note_realloc(void *place, size_t size) {
+static void *counted_realloc(void *place, size_t size) {
     asked = size;
     return refuses ? NULL : realloc(place, size);
 }
 
-static void note_free(void *place) {
+static void counted_free(void *place) {
     freed++;
     last_freed = place;
     free(place);
 }
 
-#define malloc note_malloc
-#define realloc note_realloc
-#define free note_free
+#define malloc counted_malloc
+#define realloc counted_realloc
+#define free counted_free
 #define MAIN check_all
 #include "../b2.c"
 
@@ -77,7 +77,7 @@ static void check_arguments(void) {
 }
 
 /* The name of the program is no argument. */
-static void check_names(void) {
+static void check_b2_has_argument(void) {
     char *words[] = {"NUL", "--key-file=//HOST/a=b", "--tag", "COM1", "=", NULL}, **before = arguments;
     const size_t all = count;
 
@@ -92,7 +92,7 @@ static void check_names(void) {
     count = all;
 }
 
-static void check_errno(void) {
+static void check_errno_is_shared(void) {
     errno = EIO;
     CHECK(rattle_errno() == EIO);
     rattle_set_errno(EINTR);
@@ -101,7 +101,7 @@ static void check_errno(void) {
     CHECK(errno == 0);
 }
 
-static void check_memory(void) {
+static void check_allocation_functions(void) {
     static const size_t sizes[] = {0, 1, 15, 16, 17, 4096, 1 << 20};
     unsigned char *bytes;
     struct allocation block, more;
@@ -141,7 +141,7 @@ static void check_memory(void) {
 
 #ifdef _WIN32
 /* What is there instead of read and write asks for at most 2^30 bytes, and returns what it gets. */
-static void check_streams(void) {
+static void check_read_and_write_calls(void) {
     const size_t most = 1u << 30, sizes[] = {0, 1, most - 1, most, most + 1, (size_t)1 << 32, SIZE_MAX};
     static char bytes[1];
 
@@ -158,7 +158,7 @@ static void check_streams(void) {
 }
 #elif !defined(__GLIBC__)
 /* The name that glibc has for write. */
-static void check_streams(void) {
+static void check_read_and_write_calls(void) {
     char said[4] = "####";
     int ends[2];
 
@@ -168,57 +168,57 @@ static void check_streams(void) {
     CHECK(__write(ends[0], "a", 1) == -1 && errno == EBADF);
 }
 #else
-static void check_streams(void) {}
+static void check_read_and_write_calls(void) {}
 #endif
 
 #ifdef PROCESSOR
 /* The leaves of a processor that is made up (fake_cpuid.h). */
-static void make_up(unsigned first, unsigned seventh, unsigned extended, unsigned saved) {
+static void set_fake_cpuid(unsigned first, unsigned seventh, unsigned extended, unsigned saved) {
     made_up = (struct made_up){7, 0x80000008u, first, seventh, extended, saved};
 }
 
-static bool is_leaf(unsigned number, unsigned at, unsigned reported, unsigned active) {
+static bool leaf_has_bits(unsigned number, unsigned at, unsigned reported, unsigned active) {
     const struct leaf *leaf = __x86_get_cpuid_feature_leaf(number);
     return leaf->reported[at] == reported && leaf->active[at] == active;
 }
 
-static void check_leaves(void) {
+static void check_cpuid_leaves(void) {
     const unsigned all = ~0u, first = 1u << 12 | 1u << 28 | 1u << 29, avx2 = 1u << 5;
     const unsigned no_xsave = ~(1u << 27), other = 0xdeadbeef; /* as fake_cpuid.h has it */
 
     for (unsigned saved = 0; saved < 16; saved++) {
         const bool saves = saved == 6 || saved == 7 || saved >= 14;
-        make_up(all, all, 0x21, saved);
-        CHECK(is_leaf(0, 2, all, saves ? all : ~first));
-        CHECK(is_leaf(1, 1, all, saves ? all : ~avx2));
-        CHECK(is_leaf(2, 2, 0x21, 0x21));
-        CHECK(is_leaf(0, 1, other, other) && is_leaf(1, 2, other, other));
-        CHECK(is_leaf(2, 1, other, other));
-        make_up(no_xsave, all, 0x21, saved);
-        CHECK(is_leaf(0, 2, no_xsave, no_xsave & ~first));
-        CHECK(is_leaf(1, 1, all, ~avx2));
+        set_fake_cpuid(all, all, 0x21, saved);
+        CHECK(leaf_has_bits(0, 2, all, saves ? all : ~first));
+        CHECK(leaf_has_bits(1, 1, all, saves ? all : ~avx2));
+        CHECK(leaf_has_bits(2, 2, 0x21, 0x21));
+        CHECK(leaf_has_bits(0, 1, other, other) && leaf_has_bits(1, 2, other, other));
+        CHECK(leaf_has_bits(2, 1, other, other));
+        set_fake_cpuid(no_xsave, all, 0x21, saved);
+        CHECK(leaf_has_bits(0, 2, no_xsave, no_xsave & ~first));
+        CHECK(leaf_has_bits(1, 1, all, ~avx2));
     }
-    make_up(all, all, all, 6);
-    for (unsigned at = 0; at < 4; at++) CHECK(is_leaf(3, at, 0, 0) && is_leaf(~0u, at, 0, 0));
+    set_fake_cpuid(all, all, all, 6);
+    for (unsigned at = 0; at < 4; at++) CHECK(leaf_has_bits(3, at, 0, 0) && leaf_has_bits(~0u, at, 0, 0));
 }
 #elif defined(__x86_64__) && !HAS_LEAVES
 /* Those of this processor, for which the compiler has a test too. */
-static void check_leaves(void) {
+static void check_cpuid_leaves(void) {
     CHECK(!(__x86_get_cpuid_feature_leaf(0)->active[2] >> 12 & 1) ==
           !__builtin_cpu_supports("fma"));
     CHECK(!(__x86_get_cpuid_feature_leaf(1)->active[1] >> 5 & 1) ==
           !__builtin_cpu_supports("avx2"));
 }
 #else
-static void check_leaves(void) {}
+static void check_cpuid_leaves(void) {}
 #endif
 
 OF_TEXT int check_all(void) {
     check_arguments();
-    check_names();
-    check_errno();
-    check_memory();
-    check_streams();
-    check_leaves();
+    check_b2_has_argument();
+    check_errno_is_shared();
+    check_allocation_functions();
+    check_read_and_write_calls();
+    check_cpuid_leaves();
     return fails ? 1 : 7;
 }

@@ -36,7 +36,7 @@ static number weighted_sum(PARAMETERS) {
 number probe_arguments(PARAMETERS);
 
 /* Whether the stack is as a function may take it to be: 8 beyond a multiple of 16. */
-static int is_aligned(void *frame) { return (uintptr_t)frame % 16 == 0; }
+static int is_stack_aligned(void *frame) { return (uintptr_t)frame % 16 == 0; }
 #define BUILD(level)                                                                                 \
     number probe_arguments_v##level(PARAMETERS) __asm__(IN_BUILD("probe_arguments", "v" #level));    \
     __attribute__((noinline)) number probe_arguments_v##level(PARAMETERS) {                          \
@@ -44,7 +44,7 @@ static int is_aligned(void *frame) { return (uintptr_t)frame % 16 == 0; }
     }                                                                                                \
     int probe_v##level(void) __asm__(IN_BUILD("probe", "v" #level));                                 \
     __attribute__((noinline)) int probe_v##level(void) {                                             \
-        return is_aligned(__builtin_frame_address(0)) ? level : -level;                              \
+        return is_stack_aligned(__builtin_frame_address(0)) ? level : -level;                              \
     }
 BUILD(2)
 BUILD(3)
@@ -52,7 +52,7 @@ BUILD(4)
 int probe(void);
 
 /* The arguments arrive, by a call that asks and by one that does not. */
-static void check_arguments(int level) {
+static void check_calls_pass_arguments(int level) {
     const number big = ~0ull - 6,
                  wanted = weighted_sum(big, 2, 3, 4, 5, big, 7, 8, 9, 10, 11, 12, big, 14, 15, 16) + level;
 
@@ -66,7 +66,7 @@ static void check_arguments(int level) {
 
 #ifdef PROCESSOR
 /* The level that is chosen, by the function and by a call. */
-static int level_by_call(void) {
+static int level_chosen_by_call(void) {
     int found = level_of_processor();
     vulfsjor_ffi_level = 0;
     if (found) CHECK(probe() == found && vulfsjor_ffi_level == found && probe() == found);
@@ -74,7 +74,7 @@ static int level_by_call(void) {
 }
 
 /* Below x86-64-v2 the first call writes this line to standard error, no other byte, and aborts. */
-static void refuses_processor(void) {
+static void check_old_processor_aborts(void) {
     static const char line[] =
         "vulfsjor: this processor is below x86-64-v2, which the library needs\n";
     char said[2 * sizeof line];
@@ -109,43 +109,43 @@ int main(void) {
                   {&made_up.extended, BIT(5), 2}};
 
     made_up = all;
-    CHECK(level_by_call() == 4);
-    check_arguments(4);
+    CHECK(level_chosen_by_call() == 4);
+    check_calls_pass_arguments(4);
     for (size_t i = 0; i < sizeof needed / sizeof *needed; i++)
         for (unsigned bit = 0; bit < 32; bit++) {
             if (!(needed[i].bits & BIT(bit))) continue;
             made_up = all;
             *needed[i].leaf &= ~BIT(bit);
-            CHECK(level_by_call() == needed[i].level);
+            CHECK(level_chosen_by_call() == needed[i].level);
         }
     made_up = all;
     made_up.seventh &= ~BIT(16);
-    CHECK(level_by_call() == 3);
-    check_arguments(3);
+    CHECK(level_chosen_by_call() == 3);
+    check_calls_pass_arguments(3);
     for (unsigned saved = 0; saved < 512; saved++) {
         made_up = all;
         made_up.saved = saved;
-        CHECK(level_by_call() == ((saved >> 1 & 3) != 3 ? 2 : (saved >> 5 & 7) != 7 ? 3 : 4));
+        CHECK(level_chosen_by_call() == ((saved >> 1 & 3) != 3 ? 2 : (saved >> 5 & 7) != 7 ? 3 : 4));
     }
     /* All other bits may be set, or not. */
     made_up.first = made_up.seventh = made_up.extended = made_up.saved = ~0u;
-    CHECK(level_by_call() == 4);
+    CHECK(level_chosen_by_call() == 4);
     made_up.seventh = 0;
-    CHECK(level_by_call() == 2);
+    CHECK(level_chosen_by_call() == 2);
     made_up.seventh = ~0u;
     made_up.first = 0x00982201u;
     made_up.extended = 1;
-    CHECK(level_by_call() == 2);
-    check_arguments(2);
+    CHECK(level_chosen_by_call() == 2);
+    check_calls_pass_arguments(2);
     made_up = all;
     made_up.last = 1; /* leaf 7 is not there */
-    CHECK(level_by_call() == 2);
+    CHECK(level_chosen_by_call() == 2);
     made_up.last = 0;
-    CHECK(level_by_call() == 0);
+    CHECK(level_chosen_by_call() == 0);
     made_up = all;
     made_up.last_extended = 0x80000000u;
-    CHECK(level_by_call() == 0);
-    refuses_processor();
+    CHECK(level_chosen_by_call() == 0);
+    check_old_processor_aborts();
     return fails != 0;
 }
 #else
@@ -156,7 +156,7 @@ int main(void) {
     fflush(stdout);
     first = probe();
     later = probe();
-    check_arguments(first);
+    check_calls_pass_arguments(first);
     printf("%d %d\n", first, later);
     return fails != 0;
 }

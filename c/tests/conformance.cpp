@@ -29,7 +29,7 @@ struct owned : text {
     bool is_null() const { return !bytes && length; }
 };
 
-std::string value_of(const digest &bytes) {
+std::string hex_outcome_of(const digest &bytes) {
     std::string made = bytes.empty() ? "= -" : "= ";
     for (std::uint8_t byte : bytes) made += {"0123456789abcdef"[byte >> 4], "0123456789abcdef"[byte & 15]};
     return made;
@@ -57,7 +57,7 @@ std::string refusal_of(const std::string &said) {
     return "! " + (names.count(name) ? names.at(name) : name);
 }
 
-std::string equal() {
+std::string call_equal() {
     const owned one(part[1]), other(part[2]);
     return one.length == other.length && !vulfsjor_memcmp(one.bytes, TEXT(other)) ? "= yes" : "= no";
 }
@@ -65,7 +65,7 @@ std::string equal() {
 /* The value that a call returns, or its refusal. */
 template <class F> std::string outcome_of(F call) {
     try {
-        return value_of(call());
+        return hex_outcome_of(call());
     } catch (const std::invalid_argument &refused) {
         return refusal_of(refused.what());
     }
@@ -156,7 +156,7 @@ template <class H> class driver {
             const auto made = of.state->save();
             room.resize(length);
             CHECK(!of.has_key && digest(made.begin(), made.end()) == room);
-            return value_of(room);
+            return hex_outcome_of(room);
         } catch (const std::logic_error &refused) {
             CHECK(of.has_key && !strcmp(refused.what(), "vulfsjor: a hasher with a key is not saved"));
             return "! key";
@@ -187,7 +187,7 @@ template <class H> class driver {
         std::string outcome;
         if (IS("new")) return make(of, g);
         if (IS("hash")) return hash(owned(part[2]), g);
-        if (IS("equal")) return equal();
+        if (IS("equal")) return call_equal();
         if constexpr (has_nodes) {
             if (IS("many")) return many(g);
             if (IS("load")) return load(of, owned(part[3]));
@@ -200,7 +200,7 @@ template <class H> class driver {
         else if (IS("copy")) slots[*part[2]] = slot(of);
         else if (IS("reset")) of.state->reset();
         else if (IS("digest")) {
-            outcome = value_of(digest_of(*of.state));
+            outcome = hex_outcome_of(digest_of(*of.state));
             of.state.reset();
         } else if constexpr (has_nodes) {
             if (IS("last")) of.state->set_last_node(*part[2] == '1');
@@ -246,7 +246,7 @@ template <class O> class output_driver {
             const digest made = from.read(length);
             room.resize(length);
             CHECK(is_read && made == room && from.left() == copy.left() && from.left() == left - length);
-            return value_of(made);
+            return hex_outcome_of(made);
         } catch (const std::length_error &) {
             CHECK(!is_read && from.left() == left && copy.left() == left);
             return "! left";
@@ -269,7 +269,7 @@ template <class O> class output_driver {
     }
 
     static std::string call(std::optional<O> &of, const given &g) {
-        if (IS("equal")) return equal();
+        if (IS("equal")) return call_equal();
         if (IS("new")) return make(of, g);
         if (IS("hash")) return hash(owned(part[2]), g);
         if (IS("derive")) {
@@ -343,7 +343,7 @@ class tree_driver {
     }
 
     static std::string call(std::optional<H> &of, const given &g) {
-        if (IS("equal")) return equal();
+        if (IS("equal")) return call_equal();
         if (IS("new")) return make(of, g);
         if (IS("hash") || IS("top")) {
             const owned bytes(part[IS("hash") ? 2 : 1]);
@@ -360,7 +360,7 @@ class tree_driver {
         else if (IS("digest")) {
             const digest made = digest_of(*of);
             of.reset();
-            return value_of(made);
+            return hex_outcome_of(made);
         } else can = 0;
         return "";
     }
@@ -374,7 +374,7 @@ class tree_driver {
 };
 
 /* Runs the cases of a hash by this driver, of which so many are skipped. */
-template <class D> void cases(const std::string &folder, const char *hash, int most_skipped) {
+template <class D> void run_cases_of_hash(const std::string &folder, const char *hash, int most_skipped) {
     const counts made = run_cases((folder + "/" + hash + ".txt").c_str(), D::make_call);
     std::printf("%s: %d calls, %d cases skipped, %d failures\n", hash, made.calls, made.skipped, fails);
     CHECK(made.calls > 5000 && made.skipped == most_skipped);
@@ -383,12 +383,12 @@ template <class D> void cases(const std::string &folder, const char *hash, int m
 } /* namespace */
 
 int main(int, char **argv) {
-    cases<driver<vulfsjor::blake2b>>(argv[1], "blake2b", 709);
-    cases<driver<vulfsjor::blake2s>>(argv[1], "blake2s", 705);
-    cases<driver<vulfsjor::blake2bp>>(argv[1], "blake2bp", 8);
-    cases<driver<vulfsjor::blake2sp>>(argv[1], "blake2sp", 8);
-    cases<output_driver<vulfsjor::blake2xb>>(argv[1], "blake2xb", 9);
-    cases<output_driver<vulfsjor::blake2xs>>(argv[1], "blake2xs", 8);
-    cases<tree_driver>(argv[1], "tree", 339);
+    run_cases_of_hash<driver<vulfsjor::blake2b>>(argv[1], "blake2b", 709);
+    run_cases_of_hash<driver<vulfsjor::blake2s>>(argv[1], "blake2s", 705);
+    run_cases_of_hash<driver<vulfsjor::blake2bp>>(argv[1], "blake2bp", 8);
+    run_cases_of_hash<driver<vulfsjor::blake2sp>>(argv[1], "blake2sp", 8);
+    run_cases_of_hash<output_driver<vulfsjor::blake2xb>>(argv[1], "blake2xb", 9);
+    run_cases_of_hash<output_driver<vulfsjor::blake2xs>>(argv[1], "blake2xs", 8);
+    run_cases_of_hash<tree_driver>(argv[1], "tree", 339);
     return fails != 0;
 }

@@ -75,7 +75,7 @@ static inline int init_block(state_t *S, const given *g) {
 }
 #endif
 
-static inline int init_by(int which, state_t *S, const given *g) {
+static inline int init_by_way(int which, state_t *S, const given *g) {
 #ifdef TEST_T
     return which ? ABSENT : vulfsjor_tree_init(S, g->size, TEXT(g->salt), TEXT(g->person), g->tree.leaf_length);
 #else
@@ -110,7 +110,7 @@ static inline given with_wrong_text(const given *g, int i) {
 }
 
 /* The argument that the inits refuse. */
-static inline vulfsjor_argument refused_of(const given *g) {
+static inline vulfsjor_argument argument_refused_by_inits(const given *g) {
 #if defined(TEST_T)
     return vulfsjor_tree_refused(g->size, TEXT(g->salt), TEXT(g->person), g->tree.leaf_length);
 #elif defined(TEST_NODES)
@@ -123,7 +123,7 @@ static inline vulfsjor_argument refused_of(const given *g) {
 /* ---- digests */
 
 /* In one call, or ABSENT. */
-static inline int in_one_call(uint8_t *out, const given *g, text message) {
+static inline int hash_in_one_call(uint8_t *out, const given *g, text message) {
 #ifdef TEST_T
     return vulfsjor_tree_root(out, g->size, TEXT(message), TEXT(g->salt), TEXT(g->person), g->tree.leaf_length);
 #else
@@ -142,7 +142,7 @@ static inline int write_output(state_t *S, void *out, size_t room) {
 }
 
 /* The bytes of the digest, or of the output that are left. */
-static inline uint64_t room_in(const state_t *S) {
+static inline uint64_t output_bytes_left(const state_t *S) {
 #ifdef TEST_X
     return BLAKE(left)(S);
 #else

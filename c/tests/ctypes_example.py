@@ -9,7 +9,7 @@ import sys
 blake2b = runpy.run_path(sys.argv.pop(1))["blake2b"]
 
 
-def is_right(message, size=64, key=b""):
+def is_hashlib_digest(message, size=64, key=b""):
     """The digest is that of hashlib."""
     wanted = hashlib.blake2b(bytes(message), digest_size=size, key=key).digest()
     if blake2b(message, size, key) != wanted or blake2b(message, size=size, key=key) != wanted:
@@ -28,17 +28,17 @@ for error, *arguments in (
 
 data = bytes(range(256)) * 3
 for size in range(1, 65):
-    is_right(data[:11 * size], size, data[:size])
+    is_hashlib_digest(data[:11 * size], size, data[:size])
 for wrap in (bytes, bytearray, memoryview, lambda b: memoryview(bytearray(b)), lambda b: array.array("B", b)):
-    is_right(wrap(b"abc"), key=wrap(b"key"))
+    is_hashlib_digest(wrap(b"abc"), key=wrap(b"key"))
 # A view of every second byte, and one of wider items.
-is_right(memoryview(data)[::2])
-is_right(array.array("I", range(9)))
+is_hashlib_digest(memoryview(data)[::2])
+is_hashlib_digest(array.array("I", range(9)))
 
 
 def verify_refuses(library, name, longest):
     """The exported verify accepts the digest of a state with a key, and of one without a key none."""
-    def call(word, state, text):
+    def call_state_function(word, state, text):
         return getattr(library, f"vulfsjor_ffi_{name}_{word}")(state, text, ctypes.c_size_t(len(text)))
 
     for key in b"", b"key":
@@ -50,12 +50,13 @@ def verify_refuses(library, name, longest):
             init = getattr(library, f"vulfsjor_ffi_{name}_init_salt_personal")
             none = b"", ctypes.c_size_t(0)
             made = init(state, ctypes.c_size_t(longest), key, ctypes.c_size_t(len(key)), *none, *none)
-            if made or call("update", state, b"pay 10 to Alice"):
+            if made or call_state_function("update", state, b"pay 10 to Alice"):
                 raise SystemExit(f"{name} makes no state")
         before = bytes(states[1])
-        if call("final", states[0], digest):
+        if call_state_function("final", states[0], digest):
             raise SystemExit(f"{name} has no digest")
-        if call("verify", states[1], digest.raw) != (0 if key else -1) or (bytes(states[1]) == before) == bool(key):
+        if call_state_function("verify", states[1],
+                               digest.raw) != (0 if key else -1) or (bytes(states[1]) == before) == bool(key):
             raise SystemExit(f"{name} verifies a digest of a state {'with' if key else 'without'} a key wrongly")
 
 

@@ -47,7 +47,7 @@ static uint8_t values[256];
 static char digits[2 * 256 + 1];
 
 /* So many bytes as digits and back, with each room and number of digits, and one character that is none at each place. */
-static void check_digits_of(size_t length) {
+static void check_hex_of_length(size_t length) {
     uint8_t out[2 * 70 + 9];
     for (size_t room = 0; room <= sizeof out; room++) {
         const size_t written = room > 2 * length ? 2 * length + 1 : 0;
@@ -71,18 +71,18 @@ static void check_digits_of(size_t length) {
 }
 
 /* The value of a digit by its place among the digits, or -1. */
-static int value_of(int character) {
+static int digit_value(int character) {
     static const char all[] = "0123456789abcdef0123456789ABCDEF";
     const char *at = character ? strchr(all, character) : NULL;
     return at ? (int)(at - all) % 16 : -1;
 }
 
 /* Each two characters. */
-static void check_pairs(void) {
+static void check_hex_digit_pairs(void) {
     uint8_t out[2];
     for (int i = 0; i < 256 * 256; i++) {
         const char pair[2] = {(char)(i >> 8), (char)i};
-        int high = value_of(i >> 8), low = value_of(i & 255), is_right = high >= 0 && low >= 0;
+        int high = digit_value(i >> 8), low = digit_value(i & 255), is_right = high >= 0 && low >= 0;
         CHECK(vulfsjor_hex2bin(fill_with_marks(out, 2), 1, pair, 2) == -!is_right);
         CHECK(out[0] == (is_right ? 16 * high + low : 0xaa) && out[1] == 0xaa);
     }
@@ -96,8 +96,8 @@ static void check_hex(void) {
         snprintf(digits + 2 * i, 3, "%02x", (unsigned)i);
     }
     CHECK(vulfsjor_bin2hex(all, sizeof all, values, 256) == 0 && !strcmp(all, digits));
-    for (size_t length = 0; length <= 70; length++) check_digits_of(length);
-    check_pairs();
+    for (size_t length = 0; length <= 70; length++) check_hex_of_length(length);
+    check_hex_digit_pairs();
     CHECK(vulfsjor_bin2hex(out, 9, values, ~(size_t)0) == -1 && vulfsjor_bin2hex(out, 9, NULL, 1) == -1);
     CHECK_64(vulfsjor_bin2hex(out, 9, values, TWO_TO(63)) == -1);
     CHECK(vulfsjor_bin2hex(out, ~(size_t)0, values, ~(size_t)0 / 2 + 1) == -1);
@@ -111,7 +111,7 @@ static void check_hex(void) {
 /* ---- flags and parameter blocks */
 
 /* Each bit of the flag's field says that it is set, and a reset keeps it. */
-static void check_last_node_field(void) {
+static void check_flag_field_keeps_each_bit(void) {
     uint8_t wanted[MAX], out[MAX];
     state_t made, state;
     const uint64_t most = (uint64_t)1 << (8 * sizeof made.last_node - 1);
@@ -130,7 +130,7 @@ static void check_last_node_field(void) {
 }
 
 /* The digest of "abc" from a block with another number in each byte, by tests/b2_model.py. */
-static void check_block(void) {
+static void check_digest_from_block(void) {
 #ifdef TEST_S
     static const char wanted[] = "711fb0b90102ff8063cbc327f8f2fbe9cb0836af74156b61745d352574210d89";
 #else
@@ -159,7 +159,7 @@ static void check_block(void) {
 }
 
 /* Each digest length with each key length, and which of them _refused returns. */
-static void check_param_refusals(void) {
+static void check_refused_digest_and_key_lengths(void) {
     for (int i = 0; i < 256 * 256; i++) {
         param_t param = {.digest_length = (uint8_t)i, .key_length = (uint8_t)(i >> 8)}, copy = param;
         state_t state;
@@ -176,7 +176,7 @@ static void check_param_refusals(void) {
 
 /* A state from a block with a key's length is the keyed one, verifies tags once it has absorbed the key's block, and is
  * not saved, also before it. */
-static void verify_by_block(void) {
+static void check_verify_from_keyed_block(void) {
     for (size_t keylen = 0; keylen <= MAX; keylen++) {
         param_t param = {.digest_length = MAX, .key_length = (uint8_t)keylen, .fanout = 1, .depth = 1};
         uint8_t block[BLOCK] = {0}, wanted[MAX], saved[CONSTANT(SAVEDBYTES)];
@@ -195,7 +195,7 @@ static void verify_by_block(void) {
 }
 
 /* Right tags of all lengths: verify accepts them from 16 bytes on, and verify_short_mac all. */
-static void verify_lengths(void) {
+static void check_tag_lengths_of_verify(void) {
     for (size_t n = 1; n <= MAX; n++) {
         uint8_t tag[MAX];
         state_t state;
@@ -246,11 +246,11 @@ int main(void) {
     check_null_pointers();
     check_wipe();
     check_hex();
-    check_last_node_field();
-    check_block();
-    check_param_refusals();
-    verify_by_block();
-    verify_lengths();
+    check_flag_field_keeps_each_bit();
+    check_digest_from_block();
+    check_refused_digest_and_key_lengths();
+    check_verify_from_keyed_block();
+    check_tag_lengths_of_verify();
     check_refused_messages();
     check_version();
     fprintf(stderr, "%d checks, %d failures\n", checks, fails);

@@ -28,7 +28,7 @@ static int __get_cpuid(unsigned leaf, unsigned *a, unsigned *b, unsigned *c, uns
     return __get_cpuid_count(leaf, 0, a, b, c, d);
 }
 
-static unsigned saved_registers(void) {
+static unsigned read_xcr0(void) {
     if (!(made_up.first & 1u << 27)) abort(); /* there is no such instruction */
     return made_up.saved;
 }

@@ -13,13 +13,13 @@ static const uint8_t wanted[32] = {0x50, 0x8c, 0x5e, 0x8c, 0x32, 0x7c, 0x14, 0xe
                                    0xa3, 0x4e, 0xeb, 0x45, 0x2f, 0x37, 0x45, 0x8b, 0x20, 0x9e, 0xd6,
                                    0x3a, 0x29, 0x4d, 0x99, 0x9b, 0x4c, 0x86, 0x67, 0x59, 0x82};
 
-static void call(void) {
+static void make_one_call(void) {
     uint8_t out[32];
     CHECK(vulfsjor_blake2s(out, sizeof out, "abc", 3, 0, 0) == 0 && SAME(out, wanted));
 }
 
 #ifndef FIRST_BY_THREADS
-__attribute__((constructor)) static void call_early(void) { call(); }
+__attribute__((constructor)) static void call_in_constructor(void) { make_one_call(); }
 #endif
 
 enum { THREADS = 16 };
@@ -27,7 +27,7 @@ static pthread_barrier_t begin;
 
 static void *call_at_barrier(void *unused) {
     pthread_barrier_wait(&begin);
-    for (int i = 0; i < 100; i++) call();
+    for (int i = 0; i < 100; i++) make_one_call();
     return unused;
 }
 

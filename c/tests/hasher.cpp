@@ -36,12 +36,12 @@ namespace {
 
 using text = std::vector<unsigned char>;
 
-text filled(std::size_t count, std::size_t first) {
+text counting_text(std::size_t count, std::size_t first) {
     text made(count);
     for (std::size_t i = 0; i < count; i++) made[i] = static_cast<unsigned char>(i + first);
     return made;
 }
-const text keys = filled(66, 100);
+const text keys = counting_text(66, 100);
 
 /* ---- what compiles */
 
@@ -100,7 +100,7 @@ static_assert(is_bytes<std::string_view> && is_bytes<const std::string_view> && 
     } while (0)
 
 /* All ways to say the same bytes. */
-template <class H> void inputs() {
+template <class H> void check_kinds_of_inputs() {
     char buffer[] = {'a', ' ', 't', 'e', 'x', 't', 0, 'x'}, *pointer = buffer;
     const unsigned char array[] = {'a', ' ', 't', 'e', 'x', 't'}, with_zero[] = "a text";
     const std::array<std::byte, 2> of_bytes{std::byte('a'), std::byte(' ')};
@@ -139,22 +139,22 @@ template <class H> void inputs() {
 }
 
 /* Parameters are copies: what they were made of may change and be freed. */
-template <class H> void copied_parameters() {
-    text key = filled(20, 100);
+template <class H> void check_copied_parameters() {
+    text key = counting_text(20, 100);
     unsigned char salt[] = {50, 51, 52, 53, 54};
-    parameters given{{}, key, salt, filled(6, 200), {}}, other;
+    parameters given{{}, key, salt, counting_text(6, 200), {}}, other;
     const auto wanted = H::create(given)->digest();
     const auto is_same = [&](const parameters &each) { return H::create(each)->digest() == wanted; };
-    other.key = filled(20, 100);
-    other.salt = filled(5, 50);
+    other.key = counting_text(20, 100);
+    other.salt = counting_text(5, 50);
     other.personal = "another " + std::string("text");
-    other.personal = filled(6, 200);
+    other.personal = counting_text(6, 200);
     for (int i = 0; i < 9; i++) CHECK(text(20, 0xee).back() == 0xee);
     key.assign(20, 0xee);
     salt[0] = 0;
     CHECK(is_same(given) && is_same(other));
     const parameters copy = given;
-    given.key = filled(3, 1);
+    given.key = counting_text(3, 1);
     given = parameters();
     CHECK(!given.key.has_value() && !given.key.size() && !given.key.data() && !given.salt.has_value());
     CHECK(is_same(copy));
@@ -165,14 +165,14 @@ template <class H> void copied_parameters() {
     CHECK(given.key.has_value() && !H::create(given));
 #ifdef __cpp_designated_initializers
     CHECK(H::create(parameters{.digest_length = 16})->digest_length() == 16);
-    CHECK(is_same({.key = filled(20, 100), .salt = filled(5, 50), .personal = filled(6, 200)}));
+    CHECK(is_same({.key = counting_text(20, 100), .salt = counting_text(5, 50), .personal = counting_text(6, 200)}));
 #endif
 }
 
 /* ---- refusals */
 
 /* These parameters are refused, and the exception of the constructor says this. */
-template <class H> void refuse(const parameters &given, const std::string &said) {
+template <class H> void expect_parameters_refused(const parameters &given, const std::string &said) {
     CHECK(!H::create(given));
 #ifdef __cpp_exceptions
     try {
@@ -187,24 +187,24 @@ template <class H> void refuse(const parameters &given, const std::string &said)
 }
 
 /* Keys of no bytes, texts that are null or that no memory has, and tree parameters that a hash has not. */
-template <class H> void refusals() {
+template <class H> void check_refused_parameters() {
     for (bytes wrong : {bytes(), bytes(""), bytes(nullptr, 1), bytes(keys.data(), ~std::size_t(0))}) {
-        refuse<H>({{}, wrong, {}, {}, {}}, "key is out of range");
+        expect_parameters_refused<H>({{}, wrong, {}, {}, {}}, "key is out of range");
         if (!wrong.size()) continue;
-        refuse<H>({{}, {}, wrong, {}, {}}, "salt is out of range");
-        refuse<H>({{}, {}, {}, wrong, {}}, "personal is out of range");
+        expect_parameters_refused<H>({{}, {}, wrong, {}, {}}, "salt is out of range");
+        expect_parameters_refused<H>({{}, {}, {}, wrong, {}}, "personal is out of range");
     }
     const parameters given{{}, {}, {}, {}, vulfsjor_tree{0, 0, 1, 1, 0, 0}}; /* no tree */
     if constexpr (std::is_same_v<H, blake2b> || std::is_same_v<H, blake2s>)
         CHECK(H::create(given)->digest() == H().digest());
-    else refuse<H>(given, "this hash has no tree parameters");
+    else expect_parameters_refused<H>(given, "this hash has no tree parameters");
     H hasher;
     CHECK(hasher.update("abc") && !hasher.update(keys.data(), ~std::size_t(0) - 2) && hasher.count() == 3);
 }
 
 /* A digest as an array has the length that the hasher has, and no other is one: two of them are never equal because
  * both are none. */
-template <class H> void arrays() {
+template <class H> void check_digest_arrays() {
 #ifdef __cpp_exceptions
     static_assert(std::is_same_v<decltype(H().template digest<16>()), std::array<std::uint8_t, 16>>);
     constexpr std::size_t longest = H::max_digest_length;
@@ -227,7 +227,7 @@ template <class H> void arrays() {
 }
 
 /* A verify that is refused, whatever the tag is. */
-template <class H> void verifies_nothing(const H &hasher, const std::string &said) {
+template <class H> void expect_verify_refused(const H &hasher, const std::string &said) {
 #ifdef __cpp_exceptions
     try {
         CHECK(!hasher.verify(hasher.digest()) && false);
@@ -240,15 +240,15 @@ template <class H> void verifies_nothing(const H &hasher, const std::string &sai
 }
 
 /* A digest without a key is no tag, since anybody can make it; and neither is a short one, unless it is said. */
-template <class H> void no_tags() {
+template <class H> void check_verify_needs_a_tag() {
     for (const H &each : {H(), *H::create({16, {}, {}, "a purpose", {}}), *H::create({8, {}, {}, {}, {}, true})})
-        verifies_nothing(each, "a key; compare digests by vulfsjor_memcmp");
+        expect_verify_refused(each, "a key; compare digests by vulfsjor_memcmp");
     for (std::size_t length = 1; length <= H::max_digest_length; length++) {
         const H made = *H::create({length, "a key", {}, {}, {}}), allowed = *H::create({length, "a key", {}, {}, {}, true});
         H copy;
         copy = allowed;
         CHECK(copy.verify(made.digest()) && made.digest() == allowed.digest());
-        if (length < 16) verifies_nothing(made, "a digest_length of at least 16, or allow_short");
+        if (length < 16) expect_verify_refused(made, "a digest_length of at least 16, or allow_short");
         else CHECK(made.verify(made.digest()));
     }
 }
@@ -260,7 +260,7 @@ constexpr bool is_saved<H, std::void_t<decltype(std::declval<H>().save_to(nullpt
 static_assert(is_saved<blake2b> && is_saved<blake2s> && !is_saved<vulfsjor::blake2bp> && !is_saved<vulfsjor::blake2sp>);
 
 /* What is saved is loaded as what it was, by each call, and by no other hash. */
-template <class H, class Other> void saved_states() {
+template <class H, class Other> void check_saved_states() {
     H hasher = *H::create({9, {}, {}, "purpose", {}}), other;
     std::array<std::uint8_t, 300> room{};
     const std::size_t length = H::max_digest_length == 64 ? 275 : 147;
@@ -294,7 +294,7 @@ template <class F> std::string refusal_of(const F &call) {
 }
 
 /* Containers of messages, and what no call of several accepts. */
-template <class H> void several() {
+template <class H> void check_hash_many() {
     const std::vector<text> wanted = {H::hash("abc"), H::hash(""), H::hash("xyz")};
     const std::string abc = "abc", xyz = "xyz";
     const auto of = [](const std::string &one) { return one; };
@@ -323,7 +323,7 @@ template <class H> void several() {
 }
 
 /* Copies go on alone, and a key is asked for. */
-template <class O> void outputs() {
+template <class O> void check_outputs() {
     vulfsjor::output_parameters given;
     given.length = 9;
     O one(given);
@@ -342,7 +342,7 @@ template <class O> void outputs() {
     CHECK(keyed.update("context") && keyed.read(9) == O::derive_key("a key", "context", 9));
 }
 
-void trees() {
+void check_trees() {
     using vulfsjor::tree_hasher;
     vulfsjor::tree_parameters given;
     for (std::uint64_t leaf : {std::uint64_t(0), std::uint64_t(1) << 32, (std::uint64_t(1) << 32) + 4, ~std::uint64_t(0)}) {
@@ -368,7 +368,7 @@ void trees() {
 /* ---- what is left */
 
 /* A count beyond 2^32, by a state whose counter is set: that of so many leaves, at this place. */
-template <class H> void counts(std::size_t place, std::uint64_t leaves) {
+template <class H> void check_counts_near_limit(std::size_t place, std::uint64_t leaves) {
     const std::uint64_t huge = (std::uint64_t(1) << 40) + 8 * H::block_length;
     H hasher;
     CHECK(hasher.update(bytes(keys.data(), 3)));
@@ -381,7 +381,7 @@ template <class H> void counts(std::size_t place, std::uint64_t leaves) {
 #ifdef __linux__
 /* Runs a call on a stack of its own, and returns whether the call leaves eight bytes of the key there. */
 std::function<void()> to_run;
-bool leaves_key(const text &key, std::function<void()> call) {
+bool leaves_key_on_stack(const text &key, std::function<void()> call) {
     static unsigned char stack[1 << 18], *const end = stack + sizeof stack;
     ucontext_t here, there;
     std::memset(stack, 0xa5, sizeof stack);
@@ -400,22 +400,22 @@ bool leaves_key(const text &key, std::function<void()> call) {
 
 /* A key that is pending in a state, and the calls that copy that state and end without a digest; and one in parameters,
  * where it is the salt and the personalization too. */
-template <class H> void call_leaves_nothing() {
-    const text key = filled(H::max_digest_length, 77);
+template <class H> void check_calls_leave_no_key() {
+    const text key = counting_text(H::max_digest_length, 77);
     parameters given;
     given.key = key;
     const H hasher = *H::create(given);
     std::uint8_t room[80];
-    CHECK(leaves_key(key, [&] { /* what is left is seen */
+    CHECK(leaves_key_on_stack(key, [&] { /* what is left is seen */
         unsigned char kept[sizeof(H)];
         std::memcpy(kept, static_cast<const void *>(&hasher), sizeof kept);
         asm volatile("" : : "r"(kept) : "memory");
     }));
-    CHECK(!leaves_key(key, [&] { CHECK(!hasher.digest_to(room, 3)); }));
-    CHECK(!leaves_key(key, [&] { CHECK(!hasher.digest_to(nullptr, H::max_digest_length)); }));
-    CHECK(!leaves_key(key, [&] { CHECK(hasher.digest_to(room, H::max_digest_length)); }));
+    CHECK(!leaves_key_on_stack(key, [&] { CHECK(!hasher.digest_to(room, 3)); }));
+    CHECK(!leaves_key_on_stack(key, [&] { CHECK(!hasher.digest_to(nullptr, H::max_digest_length)); }));
+    CHECK(!leaves_key_on_stack(key, [&] { CHECK(hasher.digest_to(room, H::max_digest_length)); }));
 #ifdef __cpp_exceptions
-    CHECK(!leaves_key(key, [&] {
+    CHECK(!leaves_key_on_stack(key, [&] {
         try {
             static_cast<void>(hasher.template digest<7>());
             CHECK(false);
@@ -424,11 +424,11 @@ template <class H> void call_leaves_nothing() {
     }));
 #endif
     if constexpr (std::is_same_v<H, blake2b> || std::is_same_v<H, blake2s>)
-        CHECK(!leaves_key(key, [&] { CHECK(!hasher.save_to(std::array<std::uint8_t, 300>().data(), 275)); }));
-    CHECK(!leaves_key(key, [&] { CHECK(!hasher.verify(bytes())); }));
-    CHECK(!leaves_key(key, [&] { CHECK(!hasher.verify(bytes(nullptr, 64))); }));
-    CHECK(!leaves_key(key, [&] { H copy(hasher); CHECK(copy.update("abc")); }));
-    CHECK(!leaves_key(key, [&] { /* parameters, of which without the last line nothing would be written */
+        CHECK(!leaves_key_on_stack(key, [&] { CHECK(!hasher.save_to(std::array<std::uint8_t, 300>().data(), 275)); }));
+    CHECK(!leaves_key_on_stack(key, [&] { CHECK(!hasher.verify(bytes())); }));
+    CHECK(!leaves_key_on_stack(key, [&] { CHECK(!hasher.verify(bytes(nullptr, 64))); }));
+    CHECK(!leaves_key_on_stack(key, [&] { H copy(hasher); CHECK(copy.update("abc")); }));
+    CHECK(!leaves_key_on_stack(key, [&] { /* parameters, of which without the last line nothing would be written */
         parameters other;
         other.key = key;
         other.salt = other.personal = bytes(key.data(), 16);
@@ -438,7 +438,7 @@ template <class H> void call_leaves_nothing() {
 #endif
 
 /* A hasher that is moved, swapped or assigned to itself stays what it was, byte by byte. */
-template <class H> void moved_hashers() {
+template <class H> void check_moved_hashers() {
     const auto is = [](const H &one, const H &other) { /* without the padding after the flag at the end */
         return !std::memcmp(static_cast<const void *>(&one), static_cast<const void *>(&other), sizeof one - alignof(H) + 1);
     };
@@ -459,7 +459,7 @@ template <class H> void moved_hashers() {
 
 #ifdef TEST_SECRETS
 /* Under memcheck, which reports one branch on a secret in each verify, that on its result. */
-template <class H> void verify_of_secrets() {
+template <class H> void check_verify_is_branch_free() {
     text key(keys.begin(), keys.begin() + 32);
     (void)VALGRIND_MAKE_MEM_UNDEFINED(key.data(), key.size());
     parameters given;
@@ -475,37 +475,37 @@ template <class H> void verify_of_secrets() {
 #endif
 
 /* All of a hash, whose state has the counter of each of so many leaves at this place. */
-template <class H> void family(std::size_t place, std::uint64_t leaves) {
+template <class H> void check_family(std::size_t place, std::uint64_t leaves) {
 #ifdef TEST_SECRETS
-    return verify_of_secrets<H>();
+    return check_verify_is_branch_free<H>();
 #endif
-    moved_hashers<H>();
-    inputs<H>();
-    copied_parameters<H>();
-    refusals<H>();
-    arrays<H>();
-    no_tags<H>();
+    check_moved_hashers<H>();
+    check_kinds_of_inputs<H>();
+    check_copied_parameters<H>();
+    check_refused_parameters<H>();
+    check_digest_arrays<H>();
+    check_verify_needs_a_tag<H>();
 #ifdef __linux__
-    call_leaves_nothing<H>();
+    check_calls_leave_no_key<H>();
 #endif
-    counts<H>(place, leaves);
+    check_counts_near_limit<H>(place, leaves);
 }
 
 } /* namespace */
 
 int main() {
-    family<blake2b>(offsetof(vulfsjor_blake2b_state, counter), 1);
-    family<blake2s>(offsetof(vulfsjor_blake2s_state, counter), 1);
-    family<vulfsjor::blake2bp>(offsetof(vulfsjor_blake2bp_state, lanes.counter), 4);
-    family<vulfsjor::blake2sp>(offsetof(vulfsjor_blake2sp_state, lanes.counter), 8);
-    saved_states<blake2b, blake2s>();
-    saved_states<blake2s, blake2b>();
+    check_family<blake2b>(offsetof(vulfsjor_blake2b_state, counter), 1);
+    check_family<blake2s>(offsetof(vulfsjor_blake2s_state, counter), 1);
+    check_family<vulfsjor::blake2bp>(offsetof(vulfsjor_blake2bp_state, lanes.counter), 4);
+    check_family<vulfsjor::blake2sp>(offsetof(vulfsjor_blake2sp_state, lanes.counter), 8);
+    check_saved_states<blake2b, blake2s>();
+    check_saved_states<blake2s, blake2b>();
 #if defined(__cpp_exceptions) && !defined(TEST_SECRETS)
-    several<blake2b>();
-    several<blake2s>();
-    outputs<vulfsjor::blake2xb>();
-    outputs<vulfsjor::blake2xs>();
-    trees();
+    check_hash_many<blake2b>();
+    check_hash_many<blake2s>();
+    check_outputs<vulfsjor::blake2xb>();
+    check_outputs<vulfsjor::blake2xs>();
+    check_trees();
 #endif
     return fails ? 1 : 0;
 }

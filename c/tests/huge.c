@@ -79,7 +79,7 @@ static void *repeated_pages(size_t length) {
 }
 
 /* Whether these are the bytes with these digits, which they then are no longer. */
-static int has_digits(uint8_t *bytes, const char *digits) {
+static int matches_then_clears_digest(uint8_t *bytes, const char *digits) {
     uint8_t wanted[64];
     const size_t length = strlen(digits) / 2;
     const int is = !vulfsjor_hex2bin(wanted, length, digits, 2 * length) && !memcmp(bytes, wanted, length);
@@ -90,16 +90,16 @@ static int has_digits(uint8_t *bytes, const char *digits) {
 
 /* ---- one message */
 
-static void check_message(void) {
+static void check_message_past_4_gib(void) {
     state_t state;
 
-    CHECK(!ONE_CALL(out, MAX, message, LENGTH, NULL, 0) && has_digits(out, HASH));
+    CHECK(!ONE_CALL(out, MAX, message, LENGTH, NULL, 0) && matches_then_clears_digest(out, HASH));
     CHECK(!BLAKE(init)(&state, MAX) && !BLAKE(update)(&state, message, LENGTH) && BLAKE(count)(&state) == LENGTH);
-    CHECK(!BLAKE(final)(&state, out, MAX) && has_digits(out, HASH));
+    CHECK(!BLAKE(final)(&state, out, MAX) && matches_then_clears_digest(out, HASH));
 }
 
 /* States at several places of the message, which absorb the rest of it in one call. */
-static void check_states(void) {
+static void check_updates_past_4_gib(void) {
     state_t states[LANES];
     vulfsjor_message rests[LANES];
 
@@ -111,14 +111,14 @@ static void check_states(void) {
     CHECK(!BLAKE(update_many)(states, rests, LANES));
     for (size_t i = 0; i < LANES; i++) {
         CHECK(BLAKE(count)(&states[i]) == LENGTH);
-        CHECK(!BLAKE(final)(&states[i], out, MAX) && has_digits(out, HASH));
+        CHECK(!BLAKE(final)(&states[i], out, MAX) && matches_then_clears_digest(out, HASH));
     }
 }
 
 /* ---- several messages */
 
 /* Messages of one byte whose digests have 2^32 bytes in sum, and one message of LENGTH bytes. */
-static void check_many(void) {
+static void check_many_past_4_gib(void) {
     const size_t count = ((size_t)1 << 32) / MAX, entries = PERIOD / sizeof(vulfsjor_message);
     vulfsjor_message *messages = repeated_pages(count * sizeof *messages);
     uint8_t bytes[251];
@@ -131,13 +131,13 @@ static void check_many(void) {
         CHECK(!memcmp(out, other + i * MAX, MAX));
     }
     messages[0] = (vulfsjor_message){message, LENGTH};
-    CHECK(!BLAKE(many)(out, MAX, messages, 1, NULL, 0, NULL, 0, NULL, 0) && has_digits(out, HASH));
+    CHECK(!BLAKE(many)(out, MAX, messages, 1, NULL, 0, NULL, 0, NULL, 0) && matches_then_clears_digest(out, HASH));
     munmap(messages, count * sizeof *messages + PERIOD);
 }
 
 #ifndef TEST_S
 /* Two buffers that differ only after 2^32 bytes. */
-static void same_bytes(void) {
+static void check_memcmp_past_4_gib(void) {
     uint8_t *twin = new_message();
 
     CHECK(!vulfsjor_memcmp(message, twin, LENGTH));
@@ -158,32 +158,34 @@ static vulfsjor_tree_state new_tree(uint32_t leaf) {
     return state;
 }
 
-static int has_root(vulfsjor_tree_state state) {
-    return vulfsjor_tree_count(&state) == LENGTH && !vulfsjor_tree_final(&state, out, 64) && has_digits(out, ROOT);
+static int state_has_message_root(vulfsjor_tree_state state) {
+    return vulfsjor_tree_count(&state) == LENGTH && !vulfsjor_tree_final(&state, out, 64) &&
+           matches_then_clears_digest(out, ROOT);
 }
 
-static void check_tree(void) {
+static void check_tree_past_4_gib(void) {
     const size_t whole = LENGTH / LEAF;
     uint8_t digests[(LENGTH / LEAF + 1) * 64];
     vulfsjor_tree_state state = new_tree(LEAF);
 
-    CHECK(!vulfsjor_tree_root(out, 64, message, LENGTH, NO_TEXTS) && has_digits(out, ROOT));
-    CHECK(!vulfsjor_tree_root_threads(out, 64, message, LENGTH, NO_TEXTS, 0) && has_digits(out, ROOT));
-    CHECK(!vulfsjor_tree_update(&state, message, LENGTH) && has_root(state));
+    CHECK(!vulfsjor_tree_root(out, 64, message, LENGTH, NO_TEXTS) && matches_then_clears_digest(out, ROOT));
+    CHECK(!vulfsjor_tree_root_threads(out, 64, message, LENGTH, NO_TEXTS, 0) && matches_then_clears_digest(out, ROOT));
+    CHECK(!vulfsjor_tree_update(&state, message, LENGTH) && state_has_message_root(state));
     state = new_tree(LEAF);
-    CHECK(!vulfsjor_tree_update_threads(&state, message, LENGTH, 0) && has_root(state));
+    CHECK(!vulfsjor_tree_update_threads(&state, message, LENGTH, 0) && state_has_message_root(state));
     CHECK(vulfsjor_tree_leaf_count(LENGTH, LEAF) == whole + 1);
     CHECK(!vulfsjor_tree_leaves(digests, 64 * whole, 0, 0, message, whole * LEAF, NO_TEXTS));
     CHECK(!vulfsjor_tree_leaves(digests + 64 * whole, 64, whole, 1, message + whole * LEAF, LENGTH % LEAF, NO_TEXTS));
-    CHECK(!vulfsjor_tree_root_of_leaves(out, 64, digests, sizeof digests, NO_TEXTS) && has_digits(out, ROOT));
+    CHECK(!vulfsjor_tree_root_of_leaves(out, 64, digests, sizeof digests, NO_TEXTS) &&
+          matches_then_clears_digest(out, ROOT));
     state = new_tree(LEAF);
     CHECK(!vulfsjor_tree_leaves_ahead(&state, digests, 64 * whole, 0, message, whole * LEAF));
     CHECK(!vulfsjor_tree_update_leaves(&state, digests, 64 * whole, message + whole * LEAF, LENGTH % LEAF));
-    CHECK(has_root(state));
+    CHECK(state_has_message_root(state));
 }
 
 /* More than 2^32 bytes of digests: 2^26 are the bytes of the message, and those of leaves of 64 bytes. */
-static void check_digests(void) {
+static void check_leaf_digests_past_4_gib(void) {
     const size_t end = (size_t)1 << 32, count = end / 64 + 1;
     vulfsjor_tree_state state = new_tree(64);
     vulfsjor_blake2b_state node;
@@ -209,15 +211,15 @@ int main(void) {
     message = new_message();
     other = repeated_pages(LENGTH);
 #ifndef TEST_S
-    same_bytes();
+    check_memcmp_past_4_gib();
 #endif
     if (getenv("VULFSJOR_TEST_HUGE")) {
-        check_message();
-        check_states();
-        check_many();
+        check_message_past_4_gib();
+        check_updates_past_4_gib();
+        check_many_past_4_gib();
 #ifndef TEST_S
-        check_tree();
-        check_digests();
+        check_tree_past_4_gib();
+        check_leaf_digests_past_4_gib();
 #endif
     }
     fprintf(stderr, "%d checks, %d failures\n", checks, fails);

@@ -7,9 +7,9 @@ one=()
 ! is_x86 || one=(--cpu x86-64-v2)
 # The same, made once for all of these installations, where another archive was: by a compiler of several words, which
 # notes them, and makes no position-independent programs by default.
-install_one() {
+install_once_over_other_archive() {
     if [ ! -e "$work/built/kind" ]; then
-        write_noted ccache env && mkdir -p "$work/built" && ar rc "$work/built/libvulfsjor.a" "$empty" &&
+        write_recording_command ccache env && mkdir -p "$work/built" && ar rc "$work/built/libvulfsjor.a" "$empty" &&
             touch "$work/built/libvulfsjor.so.0.0.9" &&
             PATH=$work:$PATH CC="ccache cc -fno-pie" CFLAGS=$quick "$here/install.sh" "${one[@]}" \
                 --from "$dist" --build "$work/built" || return
@@ -18,9 +18,11 @@ install_one() {
 }
 
 # Writes a compiler or an archiver that notes its words: NAME COMMAND
-write_noted() { printf '#!/bin/sh\necho "$*" >>"$0.calls"\nexec %s "$@"\n' "$2" >"$work/$1" && chmod +x "$work/$1"; }
+write_recording_command() {
+    printf '#!/bin/sh\necho "$*" >>"$0.calls"\nexec %s "$@"\n' "$2" >"$work/$1" && chmod +x "$work/$1"
+}
 
-has_files() { files_below "$1" | diff <(wanted_files lib/) -; }
+has_installed_files() { files_below "$1" | diff <(expected_installed_files lib/) -; }
 
 # A program of one hash, by the names of libb2 if LIBB2 is defined, and one with threads.
 write_program() {
@@ -38,7 +40,7 @@ write_threads() {
 
 # A program from these words and those of a module for pkg-config in this folder, run where the shared library is found:
 # FOLDER MODULE LIBRARIES WORDS
-program_by_words() {
+compile_with_pkg_config_and_run() {
     local words
     write_program "$work/program.c" && write_threads "$work/threads.c" &&
         words=$(PKG_CONFIG_PATH=$1 pkg-config --cflags --libs "$2") &&
@@ -46,18 +48,19 @@ program_by_words() {
 }
 
 # One program of an installation, and each, by its files for pkg-config, with its archives by other names.
-program_works() {
-    ! has pkg-config || program_by_words "$1/pkgconfig" vulfsjor-static /nowhere "'$work/program.c'"
+installed_program_works() {
+    ! has pkg-config || compile_with_pkg_config_and_run "$1/pkgconfig" vulfsjor-static /nowhere "'$work/program.c'"
 }
-words_work() {
+pkg_config_words_work() {
     local lib=$1
     cmp "$lib/libvulfsjor-static.a" "$lib/libvulfsjor.a" &&
-        cmp "$lib/vulfsjor-libb2/libb2.a" "$lib/libvulfsjor-libb2.a" && program_works "$lib" || return 1
+        cmp "$lib/vulfsjor-libb2/libb2.a" "$lib/libvulfsjor-libb2.a" && installed_program_works "$lib" || return 1
     ! has pkg-config || {
-        program_by_words "$lib/pkgconfig" vulfsjor "$lib" "'$work/program.c'" &&
-            program_by_words "$lib/vulfsjor-libb2/pkgconfig" libb2 /nowhere "-DLIBB2 '$work/program.c'" &&
-            program_by_words "$lib/pkgconfig" vulfsjor-threads /nowhere "'$work/threads.c'" &&
-            program_by_words "$lib/pkgconfig" vulfsjor "$lib" \
+        compile_with_pkg_config_and_run "$lib/pkgconfig" vulfsjor "$lib" "'$work/program.c'" &&
+            compile_with_pkg_config_and_run "$lib/vulfsjor-libb2/pkgconfig" libb2 /nowhere \
+            "-DLIBB2 '$work/program.c'" &&
+            compile_with_pkg_config_and_run "$lib/pkgconfig" vulfsjor-threads /nowhere "'$work/threads.c'" &&
+            compile_with_pkg_config_and_run "$lib/pkgconfig" vulfsjor "$lib" \
                 "'$work/threads.c' '$lib/libvulfsjor-threads.a' -pthread" &&
             [ "$(PKG_CONFIG_PATH=$lib/pkgconfig pkg-config --modversion vulfsjor)" = "$(version)" ]
     }
@@ -65,11 +68,12 @@ words_work() {
 
 # A folder with a space that is named from the current one; then moved as a whole; then uninstalled, where other files
 # stay.
-folder_with_a_space() {
+installs_into_folder_with_space() {
     local folder="$work/another folder"
-    cd "$work" && install_one "./a folder" && has_files "a folder" && write_program program.c &&
+    cd "$work" && install_once_over_other_archive "./a folder" && has_installed_files "a folder" &&
+        write_program program.c &&
         cc program.c -I"a folder/include" "a folder/lib/libvulfsjor.a" -o program && cd / && "$work/program" &&
-        mv "$work/a folder" "$folder" && words_work "$folder/lib" || return 1
+        mv "$work/a folder" "$folder" && pkg_config_words_work "$folder/lib" || return 1
     touch "$folder"/{lib/theirs,lib/cmake/vulfsjor/theirs,include/theirs.h} &&
         cd "$work" && "$here/install.sh" --uninstall "another folder" &&
         files_below "$folder" | diff <(printf '%s\n' include/theirs.h lib/cmake/vulfsjor/theirs lib/theirs) - &&
@@ -80,25 +84,27 @@ folder_with_a_space() {
 
 # From a repository with a comma in its name, in a shell whose options come from the caller, and for programs that are
 # linked statically.
-folder_with_a_comma() {
+installs_from_folder_with_comma() {
     local copy="$work/a repository, copied"
     mkdir "$copy" && cp -r "$top"/{c,tools} "$copy/" && ln -s "$top/dist" "$copy/dist" &&
         env SHELLOPTS=noglob BASHOPTS=failglob CFLAGS="$quick" LDFLAGS=-static "$copy/c/install.sh" "${one[@]}" \
-            --from "$dist" "$work/from a copy" && has_files "$work/from a copy" || return 1
-    [ -z "${VULFSJOR_TEST_HUGE-}" ] || ! has cmake || { project_by_cmake "$shared_is_on
-add_subdirectory(\"$copy/c\" vulfsjor)" vulfsjor::vulfsjor vulfsjor::threads && needs_shared; }
+            --from "$dist" "$work/from a copy" && has_installed_files "$work/from a copy" || return 1
+    [ -z "${VULFSJOR_TEST_HUGE-}" ] || ! has cmake || { write_and_build_cmake_project "$shared_is_on
+add_subdirectory(\"$copy/c\" vulfsjor)" vulfsjor::vulfsjor vulfsjor::threads && needs_only_shared_library; }
 }
 
 # DESTDIR and LIBDIR, as a package is made: nothing outside of DESTDIR, and no word of it in a file.
-package() {
+installs_into_destdir_only() {
     local root="$work/the root"
-    DESTDIR=$root LIBDIR=lib/x86_64-linux-gnu install_one "$work/usr" && [ ! -e "$work/usr" ] &&
-        files_below "$root$work/usr" | diff <(wanted_files lib/x86_64-linux-gnu/) - &&
+    DESTDIR=$root LIBDIR=lib/x86_64-linux-gnu install_once_over_other_archive "$work/usr" && [ ! -e "$work/usr" ] &&
+        files_below "$root$work/usr" | diff <(expected_installed_files lib/x86_64-linux-gnu/) - &&
         ! grep -rlF "$root" "$root" && ! grep -rlF "$work" "$root" &&
-        words_work "$root$work/usr/lib/x86_64-linux-gnu" || return 1
-    DESTDIR=$root LIBDIR=$work/lib64 install_one "$work/usr" && program_works "$root$work/lib64" &&
+        pkg_config_words_work "$root$work/usr/lib/x86_64-linux-gnu" || return 1
+    DESTDIR=$root LIBDIR=$work/lib64 install_once_over_other_archive "$work/usr" &&
+        installed_program_works "$root$work/lib64" &&
         [ "$(files_below "$root$work/lib64" | wc -l)" -eq 14 ] || return 1
-    DESTDIR=$root install_one /usr/local && grep -qx prefix=/usr/local "$root/usr/local/lib/pkgconfig/vulfsjor.pc" &&
+    DESTDIR=$root install_once_over_other_archive /usr/local &&
+        grep -qx prefix=/usr/local "$root/usr/local/lib/pkgconfig/vulfsjor.pc" &&
         DESTDIR=$root "$here/install.sh" --uninstall /usr/local || return 1
     DESTDIR=$root LIBDIR=$work/lib64 "$here/install.sh" --uninstall "$work/usr" &&
         DESTDIR=$root LIBDIR=lib/x86_64-linux-gnu "$here/install.sh" --uninstall "$work/usr" &&
@@ -106,12 +112,12 @@ package() {
 }
 
 # Only one build, without the choice, and with the same functions.
-one_build() {
+installs_one_build_without_choice() {
     local folder=$work/one
-    install_one "$folder" && ! ar t "$folder/lib/libvulfsjor.a" | grep empty &&
+    install_once_over_other_archive "$folder" && ! ar t "$folder/lib/libvulfsjor.a" | grep empty &&
         grep -qx 'Description: .*, proved, for x86-64-v2' "$folder/lib/pkgconfig/vulfsjor.pc" &&
-        has_files "$folder" && ! nm "$folder/lib/libvulfsjor.a" | grep -q vulfsjor_ffi_level &&
-        names_are_hidden "$folder/lib/libvulfsjor.a" "$folder/include" &&
+        has_installed_files "$folder" && ! nm "$folder/lib/libvulfsjor.a" | grep -q vulfsjor_ffi_level &&
+        archive_names_stay_hidden "$folder/lib/libvulfsjor.a" "$folder/include" &&
         nm -g --defined-only "$folder/lib/libvulfsjor.a" |
         sed -n 's/.* T \(vulfsjor_ffi_[a-z0-9_]*[a-z]\)$/\1/p' | LC_ALL=C sort |
             diff - <(sed -n 's/^CALL("\(.*\)")$/\1/p' "$here/choose.c" | LC_ALL=C sort)
@@ -119,15 +125,17 @@ one_build() {
 
 # A second installation takes the place of the first, and of what another left there. It writes to no
 # file of another by a link.
-installs_again() {
+reinstalls_over_old_files() {
     local folder=$work/again
-    install_one "$folder" && echo old >"$work/old" && ln -sf "$work/old" "$folder/lib/libvulfsjor.a" &&
+    install_once_over_other_archive "$folder" && echo old >"$work/old" &&
+        ln -sf "$work/old" "$folder/lib/libvulfsjor.a" &&
         ln -sf nowhere "$folder/lib/libvulfsjor.so" &&
-        install_one "$folder" && program_works "$folder/lib" && [ "$(cat "$work/old")" = old ] && has_files "$folder"
+        install_once_over_other_archive "$folder" && installed_program_works "$folder/lib" &&
+        [ "$(cat "$work/old")" = old ] && has_installed_files "$folder"
 }
 
 # A program has at most 80 KB, and code of the family that it calls and of no other: PROGRAM FAMILY
-is_small() {
+program_is_small() {
     local size names
     size=$(stat -c %s "$1") && names=$(nm "$1") && grep " vulfsjor_ffi_$2_" <<<"$names" >/dev/null || return 1
     ! sed -n 's/.* vulfsjor_ffi_//p' <<<"$names" | grep -vE "^($2(_|$)|(ask|find|level)(\.|$))" &&
@@ -137,7 +145,7 @@ is_small() {
 
 # Programs that link the archive and have one hash, in one call or in pieces, are small without a flag for it: by
 # pkg-config and by CMake.
-small_programs() {
+linked_programs_are_small() {
     local family first call folder=$work/small words
     mkdir "$folder" && words=$(PKG_CONFIG_PATH=$prefix/lib/pkgconfig pkg-config --cflags --libs vulfsjor-static) ||
         return 1
@@ -145,18 +153,18 @@ small_programs() {
         printf '%s\n' '#include <vulfsjor.h>' 'int main(void) { unsigned char d[32];' \
             "vulfsjor_${family}_state s; (void)s; return $call || d[0] != $first; }" >"$folder/program.c" &&
             eval "cc '$folder/program.c' $words -o '$folder/program'" && "$folder/program" &&
-            is_small "$folder/program" "$family" || return 1
+            program_is_small "$folder/program" "$family" || return 1
     done <<'END'
 blake2b 0xbd vulfsjor_blake2b(d, 32, "abc", 3, 0, 0)
 blake2s 0x50 vulfsjor_blake2s(d, 32, "abc", 3, 0, 0)
 blake2b 0xbd vulfsjor_blake2b_init(&s, 32) || vulfsjor_blake2b_update(&s, "abc", 3) || vulfsjor_blake2b_final(&s, d, 32)
 END
-    ! has cmake || { project_that_finds "$prefix" "" && is_small "$work/made_program" blake2b; }
+    ! has cmake || { cmake_project_finds_package "$prefix" "" && program_is_small "$work/made_program" blake2b; }
 }
 
 # A project of its own that has the library's files as a part, by hand, as c/README.md has it:
 # compiled together with its program.
-vendored_by_hand() {
+sources_build_in_project_by_hand() {
     local folder=$work/by\ hand words
     mkdir -p "$folder/YOURS" && ln -sf "$top/c" "$top/dist" "$folder/" &&
         write_program "$folder/YOURS/hello.c" && cd "$folder" || return 1
@@ -175,7 +183,7 @@ vendored_by_hand() {
 # A project for CMake that gets the library by these lines, with a program and one with threads that
 # link these targets, and a shared library: LINES TARGET TARGET [LANGUAGE]. Both programs run; the first one is then
 # `made_program`, and the file `needed` has which of our shared libraries they need.
-project_by_cmake() {
+write_and_build_cmake_project() {
     local folder build language=${4:-C}
     folder=$(mktemp -d "$work/project.XXXX") && build=$folder/build
     write_program "$folder/program.c" && write_threads "$folder/threads.c" &&
@@ -204,17 +212,17 @@ END
         sed -n 's/.*NEEDED.*\[\(libvulfsjor.*\)\]/\1/p' >"$work/needed"
 }
 # The same with the package below a folder: FOLDER WORDS [LINES [LANGUAGE]]
-project_that_finds() {
-    project_by_cmake "list(APPEND CMAKE_PREFIX_PATH \"$1\")
+cmake_project_finds_package() {
+    write_and_build_cmake_project "list(APPEND CMAKE_PREFIX_PATH \"$1\")
 ${3-}
 find_package(vulfsjor $2 REQUIRED)" vulfsjor::vulfsjor vulfsjor::threads "${4-C}"
 }
-needs_nothing() { [ ! -s "$work/needed" ]; }
-needs_shared() { diff "$work/needed" <(printf '%s\n' libvulfsjor.so.1{,,}); }
+needs_no_shared_library() { [ ! -s "$work/needed" ]; }
+needs_only_shared_library() { diff "$work/needed" <(printf '%s\n' libvulfsjor.so.1{,,}); }
 shared_is_on="set(BUILD_SHARED_LIBS ON)"
 
 # The repository as a part of a project.
-vendored_by_cmake() {
+cmake_builds_repository_as_part() {
     local add="add_subdirectory(\"$here\" vulfsjor)" odd
     odd="set(CMAKE_INTERPROCEDURAL_OPTIMIZATION ON)
 set(CMAKE_C_FLAGS -fno-pie)
@@ -223,30 +231,32 @@ set(CMAKE_C_EXTENSIONS OFF)
 $add
 set(CMAKE_C_FLAGS)
 set(CMAKE_C_STANDARD)"
-    project_by_cmake "$odd" vulfsjor::vulfsjor vulfsjor::threads && needs_nothing || return 1
-    ! is_x86 || are_marked "x86 feature: IBT, SHSTK" "" "$work"/project.*/build/vulfsjor/libvulfsjor{,-threads}.a ||
+    write_and_build_cmake_project "$odd" vulfsjor::vulfsjor vulfsjor::threads && needs_no_shared_library || return 1
+    ! is_x86 || objects_have_mark "x86 feature: IBT, SHSTK" "" \
+        "$work"/project.*/build/vulfsjor/libvulfsjor{,-threads}.a ||
         return 1
-    project_by_cmake "$shared_is_on
-$add" vulfsjor::vulfsjor vulfsjor::threads && needs_shared &&
+    write_and_build_cmake_project "$shared_is_on
+$add" vulfsjor::vulfsjor vulfsjor::threads && needs_only_shared_library &&
         readelf -d "$work"/project.*/build/vulfsjor/libvulfsjor.so | grep -q BIND_NOW
 }
 
 # The package of an installation: by another LIBDIR, static by default, for C++ too and found twice; and moved, shared
 # by BUILD_SHARED_LIBS.
-installed_for_cmake() {
+cmake_package_is_found() {
     local found=$work/found
-    LIBDIR=$found/other/lib install_one "$work/found by libdir" &&
-        project_that_finds "$found/other" "" "find_package(vulfsjor $(version) EXACT REQUIRED)" CXX && needs_nothing &&
-        install_one "$work/found here" && mv "$work/found here" "$found/here" &&
-        project_that_finds "$found/here" 0.1 "$shared_is_on" && needs_shared
+    LIBDIR=$found/other/lib install_once_over_other_archive "$work/found by libdir" &&
+        cmake_project_finds_package "$found/other" "" "find_package(vulfsjor $(version) EXACT REQUIRED)" CXX &&
+        needs_no_shared_library &&
+        install_once_over_other_archive "$work/found here" && mv "$work/found here" "$found/here" &&
+        cmake_project_finds_package "$found/here" 0.1 "$shared_is_on" && needs_only_shared_library
 }
 
 # `cmake --install`, which installs the same files as the Makefile, by the same scripts: a stand-in for bash notes their
 # words and variables, and has what they would build. The package for CMake may be moved within the installation, and
 # has the static library and the shared one.
-installed_by_cmake() {
+cmake_installs_same_files() {
     local folder=$work/by\ cmake made=$work/by\ cmake.build/made cc
-    cc=$(command -v cc) && install_one "$work/as it is" && cat >"$work/noted_bash" <<END || return 1
+    cc=$(command -v cc) && install_once_over_other_archive "$work/as it is" && cat >"$work/noted_bash" <<END || return 1
 #!$BASH
 [ "\$2" = --build ] || exec "$BASH" "\$@"
 echo "\$CC|\$CFLAGS|\$LDFLAGS|\$*" >>"$work/noted_bash.calls"
@@ -259,18 +269,18 @@ END
         cmake --build "$folder.build" && diff "$work/noted_bash.calls" <(printf "$cc|-DASKED -g|-L/asked|%s\n" \
             "$here/../b2"{,sum}" --build $made/b2"{,sum} "$here/../c/install.sh --build $made/lib" | sed 2,3d) &&
         cmake --install "$folder.build" --prefix "$folder" &&
-        files_below "$folder" | diff <(files_of_all) - &&
+        files_below "$folder" | diff <(files_of_full_installation) - &&
         diff -r "$work/as it is/lib" "$folder/lib" && diff -r "$prefix/include" "$folder/include" &&
         mv "$folder/lib/cmake/vulfsjor" "$folder/share/" &&
         cmake -S "$here" -B "$folder.build" -DCMAKE_INSTALL_{BIN,INCLUDE,MAN}DIR=other &&
         cmake --install "$folder.build" --prefix "$folder.other" && files_below "$folder.other" |
-        diff <(files_of_all | sed 's,^\(bin\|include\|share/man\)/,other/,' | LC_ALL=C sort) - || return 1
-    project_that_finds "$folder" 0.1 "$shared_is_on" && needs_shared && rm -r "$folder/include" &&
-        refuses 1 'no folder above' project_that_finds "$folder" 0.1
+        diff <(files_of_full_installation | sed 's,^\(bin\|include\|share/man\)/,other/,' | LC_ALL=C sort) - || return 1
+    cmake_project_finds_package "$folder" 0.1 "$shared_is_on" && needs_only_shared_library && rm -r "$folder/include" &&
+        refuses 1 'no folder above' cmake_project_finds_package "$folder" 0.1
 }
 
 # The same in portable C, in the way of Windows and macOS: the library without the programs.
-portable_by_cmake() {
+cmake_installs_portable_library() {
     local folder=$work/portable
     printf '#!/bin/sh\nexec cc "$@" %s\n' $quick >"$work/quick" && chmod +x "$work/quick" &&
         cmake -S "$here" -B "$folder.build" -DVULFSJOR_PORTABLE=ON -DCMAKE_INSTALL_LIBDIR=lib \
@@ -278,12 +288,12 @@ portable_by_cmake() {
         cmake --build "$folder.build" && cmake --install "$folder.build" --prefix "$folder" &&
         files_below "$folder" | diff <(printf '%s\n' include/vulfsjor{.h,.hpp,_threads.h} \
             lib/cmake/vulfsjor/vulfsjor-config{-version,}.cmake lib/libvulfsjor{-threads,}.a) - &&
-        project_that_finds "$folder" "$(version) EXACT" && needs_nothing
+        cmake_project_finds_package "$folder" "$(version) EXACT" && needs_no_shared_library
 }
 
 # What pkg-config prints for each module, from the folder of its file: MODULE FOLDER INCLUDES ROOM LIBRARIES. CMake and
 # meson find the files of such words.
-words_are_these() {
+pkg_config_prints_words() {
     local module folder includes room libraries
     while read -r module folder includes room libraries; do
         folder=$prefix/lib/$folder
@@ -299,16 +309,17 @@ END
 }
 
 # What the compiler of several words has compiled, which becomes a part of a shared library.
-compilers_of_words() {
+compiler_of_several_words_compiles_all() {
     local folder=$work/words
-    install_one "$folder" && program_works "$folder/lib" &&
+    install_once_over_other_archive "$folder" && installed_program_works "$folder/lib" &&
         [ "$(grep -c -- ' -c ' "$work/ccache.calls")" -ge 5 ] && ! grep -v '^cc -fno-pie ' "$work/ccache.calls" &&
         cc -shared -Wl,-z,defs -Wl,-z,text -Wl,--whole-archive "$folder/lib/libvulfsjor-threads.a" \
-            "$(linked_whole "$folder/lib/libvulfsjor-libb2.a")" -Wl,--no-whole-archive -pthread -o "$folder/shared.so"
+            "$(copy_without_whole_guard "$folder/lib/libvulfsjor-libb2.a")" -Wl,--no-whole-archive -pthread -o \
+            "$folder/shared.so"
 }
 
 # The files of a program that `make install` installs.
-files_of_program() {
+installed_files_of_program() {
     printf "%s/$1%s\n" bin "" share/bash-completion/completions "" share/man/man1 .1 \
         share/fish/vendor_completions.d .fish
     echo "share/zsh/site-functions/_$1"
@@ -316,7 +327,7 @@ files_of_program() {
 
 # Whether the files of b2 and of b2sum that are not built are the ones of this repository, which differ only by this
 # before the name of a program, wherever that is one: FOLDER [PREFIX]
-are_copies() {
+installed_scripts_are_copies() {
     local name place from text prefix=${2-}
     for name in b2 b2sum; do
         while read -r place from; do
@@ -324,7 +335,8 @@ are_copies() {
                 diff <(echo "${text//"${prefix^^}"/}") "$top/$from" || return
             [ -z "$prefix" ] || ! grep -e "^\.TH ${name^^} " -e "^$name " -e "\\\\fB$name[ \\\\]" \
                 -e "^complete .* $name\( \|\$\)" -e "^#compdef $name" "$1/$place" || return
-        done < <(files_of_program "$prefix$name" | paste -d ' ' - <(printf '%s\n' "$name" completions/$name.bash \
+        done < <(installed_files_of_program "$prefix$name" |
+            paste -d ' ' - <(printf '%s\n' "$name" completions/$name.bash \
             docs/$name.1 completions/{$name.fish,_$name}) | sed 1d)
     done
 }
@@ -339,22 +351,23 @@ make_here() {
 }
 
 # All files of an installation of programs and library, with this before their names: PREFIX
-files_of_all() {
-    { files_of_program "${1-}b2" && files_of_program "${1-}b2sum" && wanted_files lib/ &&
+files_of_full_installation() {
+    { installed_files_of_program "${1-}b2" && installed_files_of_program "${1-}b2sum" &&
+        expected_installed_files lib/ &&
         printf 'share/man/man3/%s.3\n' vulfsjor vulfsjor_tree $(functions_of_headers); } | LC_ALL=C sort
 }
 
 # `make install` and `make uninstall`, below DESTDIR.
-made_by_make() {
+make_installs_and_uninstalls() {
     local root="$work/made here" place="$work/made here/opt/a b"
     (umask 077 && make_here install prefix="/opt/a b" DESTDIR="$root") &&
-        files_below "$place" | diff <(files_of_all) - &&
+        files_below "$place" | diff <(files_of_full_installation) - &&
         [ "$(cd "$place" && find . -type f -perm 755 | sort | paste -sd ' ')" = \
             "./bin/b2 ./bin/b2sum ./lib/libvulfsjor.so.$(version)" ] &&
         [ -z "$(find "$root" ! -type l ! -perm 755 ! -perm 644)" ] &&
         [ "$(printf abc | "$place/bin/b2" sum b512)" = "$(printf abc | b2sum | cut -c-128)" ] &&
         [ "$(printf abc | "$place/bin/b2sum")" = "$(printf abc | b2sum)" ] &&
-        are_copies "$place" && touch "$place/bin/other" &&
+        installed_scripts_are_copies "$place" && touch "$place/bin/other" &&
         make_here uninstall prefix="/opt/a b" DESTDIR="$root" &&
         [ "$(files_below "$root")" = "opt/a b/bin/other" ] &&
         refuses 2 "prefix must be an absolute path" make_here install prefix=opt &&
@@ -366,9 +379,10 @@ made_by_make() {
 
 # The variables of the GNU standards: each reaches the compiler, the archiver or its folder. What was built is installed
 # without a compiler.
-variables_of_make() {
+make_variables_reach_tools() {
     local root=$work/variables line folders=(prefix=/p bindir=/b libdir=/l includedir=/i mandir=/m datarootdir=/d)
-    write_noted noted_cc cc && write_noted noted_ar ar && make_here all 2>"$work/made_said" || return 1
+    write_recording_command noted_cc cc && write_recording_command noted_ar ar && make_here all 2>"$work/made_said" ||
+        return 1
     # Debug information names no temporary file, so that another build is the same.
     ! grep -rlaF -e "$work/made" -e /text.s --exclude words "$work/made" || return 1
     # Only objects of the system have no marks.
@@ -385,7 +399,7 @@ variables_of_make() {
         [ "$(grep -c -e ' -E .*/macros' "$work/noted_cc.calls")" -eq 1 ] &&
         [ "$(wc -l <"$work/noted_ar.calls")" -eq 3 ] && make_here -s install DESTDIR="$root" "${folders[@]}" &&
         [ "$(wc -l <"$work/noted_ar.calls")" -eq 3 ] && make_here -q all && ! make_here -q install CC=cc &&
-        ! make_here -q all CFLAGS="it's" && files_below "$root" | diff <(files_of_all |
+        ! make_here -q all CFLAGS="it's" && files_below "$root" | diff <(files_of_full_installation |
             sed 's|^bin/|b/|;s|^include/|i/|;s|^lib/|l/|;s|^share/man/|m/|;s|^share/|d/|' | LC_ALL=C sort) - &&
         [ "$(printf abc | "$root/b/b2sum")" = "$(printf abc | b2sum)" ] &&
         make_here uninstall DESTDIR="$root" "${folders[@]}" && [ -z "$(files_below "$root")" ] || return 1
@@ -396,7 +410,7 @@ variables_of_make() {
 
 # Each of these is built again if what the compiler gets has changed, or a file that it is made of, as make itself lists
 # them.
-built_again() {
+make_rebuilds_after_changes() {
     local line target files
     declare -A made_of=()
     make_here -q all && [ "$(make_here -n CFLAGS=-O3 | grep -c -e ' --build ')" -eq 3 ] || return 1
@@ -411,7 +425,7 @@ built_again() {
 
 # Next to files of others, in the folders of the system: nothing is installed, unless by another name; and then the
 # others stay, also when ours go.
-refuses_others() {
+make_keeps_files_of_others() {
     local root=$work/others place=$work/others/usr name
     mkdir -p "$place/bin" "$place/share/man/man1" && echo coreutils >"$place/bin/b2sum" &&
         echo Boost >"$place/bin/b2" && echo coreutils >"$place/share/man/man1/b2sum.1" || return 1
@@ -420,13 +434,14 @@ refuses_others() {
             [ "$(files_below "$root" | wc -l)" -eq 3 ] || return 1
     done
 }
-made_next_to_others() {
+make_installs_next_to_others() {
     local root=$work/others place=$work/others/usr
     make_here install prefix=/usr DESTDIR="$root" PROGRAM_PREFIX=vulfsjor- &&
         files_below "$place" | diff <({ printf '%s\n' bin/b2 bin/b2sum share/man/man1/b2sum.1 &&
-            files_of_all vulfsjor-; } | LC_ALL=C sort) - &&
+            files_of_full_installation vulfsjor-; } | LC_ALL=C sort) - &&
         [ "$(cat "$place"/bin/b2{,sum} "$place/share/man/man1/b2sum.1" | paste -sd ' ')" = \
-            "Boost coreutils coreutils" ] && are_copies "$place" vulfsjor- && is_plain "$place/lib/pkgconfig" &&
+            "Boost coreutils coreutils" ] && installed_scripts_are_copies "$place" vulfsjor- &&
+            pkg_config_omits_system_folders "$place/lib/pkgconfig" &&
         [ "$("$place/bin/vulfsjor-b2sum" none 2>&1)" = "vulfsjor-b2sum: none: No such file or directory" ] || return 1
     make_here install prefix=/usr DESTDIR="$root" PROGRAM_PREFIX=vulfsjor- &&
         make_here uninstall prefix=/usr DESTDIR="$root" && [ "$(cat "$place/bin/b2")" = Boost ] &&
@@ -435,7 +450,7 @@ made_next_to_others() {
 }
 
 # In the folders of the system pkg-config leaves them out.
-is_plain() {
+pkg_config_omits_system_folders() {
     grep -qx prefix=/usr "$1/vulfsjor.pc" && grep -q '^URL: https://' "$1/vulfsjor.pc" || return 1
     ! has pkg-config ||
         [ "$(PKG_CONFIG_PATH=$1 pkg-config --cflags --libs vulfsjor | sed 's/ *$//')" = -lvulfsjor ]
@@ -443,7 +458,7 @@ is_plain() {
 
 # What the other names of the Makefile run, and the list of all. No rule takes a word that is not listed, such as one
 # that is the name of somebody's program.
-run_by_make() {
+make_targets_run_commands() {
     local word
     diff <(make -C "$top" -n --no-print-directory test release prove twins dist bench docs) - <<'END' || return 1
 ./test
@@ -472,7 +487,7 @@ END
 
 # What CMakeLists.txt chooses, by its own lines, for each system, processor, size of pointers and variable that is on:
 # portable C where there is no assembly, or if it is asked for.
-chosen_by_cmake() {
+cmake_chooses_sources_per_system() {
     local texts=({Linux,Android,Darwin,Windows,{Free,Net,Open}BSD,DragonFly},{x86_64,{amd,AMD,arm,ARM}64,aarch64},8,ON)
     local portable=(Linux,{riscv64,aarch64_be,not_arm64},8,ON Linux,{x86_64,armv7l},4,ON Haiku,x86_64,8,ON
         SunOS,aarch64,8,ON Linux,x86_64,8,VULFSJOR_PORTABLE Windows,AMD64,8,MSVC)
@@ -489,7 +504,7 @@ chosen_by_cmake() {
 }
 
 # A repository of its own whose tools/dist.sh is a stand-in, which notes its words.
-make_stand_in() {
+make_repository_with_fake_dist_script() {
     mkdir -p "$1/tools" && cp "$top/tools/shell.sh" "$1/tools" && cp -R "$here" "$1/c" && cp -R "$dist" "$1/dist" &&
         cat >"$1/tools/dist.sh" <<END || return 1
 #!/bin/sh
@@ -500,9 +515,9 @@ END
 }
 
 # Without a word the library comes from dist/, where that was made from these sources. Else nothing is installed.
-comes_from() {
+library_comes_from() {
     local tree=$work/tree
-    compiler_for && make_stand_in "$tree" && CC="$work/for $(cc -dumpmachine)" \
+    compiler_for && make_repository_with_fake_dist_script "$tree" && CC="$work/for $(cc -dumpmachine)" \
         "$tree/c/install.sh" --portable "$tree/made" && [ -e "$tree/made/lib/libvulfsjor.so" ] &&
         grep -F "$tree/dist/c/vulfsjor.c" "$work/compiled" &&
         [ "$(cat "$tree/calls")" = current ] && touch "$tree/refuse" || return 1
@@ -538,7 +553,7 @@ END
 }
 
 # The names of the texts that install.sh takes for a machine, whose compiler is that one.
-texts_for() {
+texts_chosen_for_machine() {
     rm -f "$work/compiled"
     CC="$work/for $1" "$here/install.sh" --from "$dist" "${@:2}" "$work/for_$1" 2>"$work/said"
     grep -ohE '/vulfsjor[v0-9-]*\.[sc] ' "$work/compiled" | sort -u | tr -d '/ '
@@ -546,25 +561,28 @@ texts_for() {
 
 # A folder of the loader: the programs that link the library start, or a line says what is to be done. A stand-in for
 # ldconfig notes that it is run.
-for_the_loader() {
+install_updates_loader_cache() {
     local folder=$work/loader
     mkdir -p "$folder/bin" && cat >"$folder/bin/ldconfig" <<END && chmod +x "$folder/bin/ldconfig" || return 1
 #!/bin/sh
 case "\$*" in -NXv) echo "$folder/lib: (from x)" ;; "") [ ! -e "$folder/refuse" ] && touch "$folder/run" ;; esac
 END
-    PATH=$folder/bin:$PATH install_one "$folder/other" && [ ! -e "$folder/run" ] &&
-        PATH=$folder/bin:$PATH DESTDIR=$folder/root install_one "$folder" && [ ! -e "$folder/run" ] &&
-        PATH=$folder/bin:$PATH install_one "$folder" && [ -e "$folder/run" ] && touch "$folder/refuse" &&
-        PATH=$folder/bin:$PATH install_one "$folder" 2>&1 | tail -1 | grep -F "run ldconfig" || return 1
+    PATH=$folder/bin:$PATH install_once_over_other_archive "$folder/other" && [ ! -e "$folder/run" ] &&
+        PATH=$folder/bin:$PATH DESTDIR=$folder/root install_once_over_other_archive "$folder" &&
+        [ ! -e "$folder/run" ] &&
+        PATH=$folder/bin:$PATH install_once_over_other_archive "$folder" && [ -e "$folder/run" ] &&
+        touch "$folder/refuse" &&
+        PATH=$folder/bin:$PATH install_once_over_other_archive "$folder" 2>&1 | tail -1 | grep -F "run ldconfig" ||
+        return 1
     # After an upgrade nothing is left of the older library.
     touch "$folder/lib/libvulfsjor.so.0.0.9" && "$here/install.sh" --uninstall "$folder" &&
         [ -z "$(files_below "$folder/lib")" ]
 }
 
 # What is installed for a machine works, says what it is, and has all functions.
-is_portable() {
+installation_is_portable_c() {
     local lib=$work/for_$1/lib
-    words_work "$lib" &&
+    pkg_config_words_work "$lib" &&
         grep -qx 'Description: BLAKE2b, BLAKE2s, BLAKE2bp and BLAKE2sp, translated from proved code' \
             "$lib/pkgconfig/vulfsjor.pc" &&
         [ "$(nm -D --defined-only "$lib/libvulfsjor.so" | wc -l)" -eq \
@@ -573,38 +591,39 @@ is_portable() {
 
 # Every machine without assembly has portable C, which works, and others have it by a word. Systems
 # with ELF have the assembly for Linux.
-machines_without_assembly() {
+machines_without_assembly_get_portable_c() {
     local machine
     compiler_for && touch "$work/real" || return 1
-    texts_for riscv64-linux-gnu | diff <(echo vulfsjor.c) - && is_portable riscv64-linux-gnu &&
+    texts_chosen_for_machine riscv64-linux-gnu | diff <(echo vulfsjor.c) - &&
+        installation_is_portable_c riscv64-linux-gnu &&
         [ "$(grep -c -e -Wl,-z,defs "$work/compiled")" -eq 1 ] && rm "$work/real" && touch "$work/noting" || return 1
-    texts_for x86_64-pc-linux-gnu --portable | diff <(echo vulfsjor.c) - || return 1
+    texts_chosen_for_machine x86_64-pc-linux-gnu --portable | diff <(echo vulfsjor.c) - || return 1
     for machine in x86_64-linux-gnux32 aarch64-linux-gnu_ilp32 aarch64_be-linux-gnu i386-unknown-haiku; do
-        texts_for $machine | diff <(echo vulfsjor.c) - || return 1
+        texts_chosen_for_machine $machine | diff <(echo vulfsjor.c) - || return 1
     done
     ! is_x86 ||
         for machine in x86_64-unknown-{openbsd,freebsd14.0,dragonfly6.4} x86_64-{linux-android,w64-windows-gnu}; do
-        texts_for $machine | diff <(printf 'vulfsjor-v%s.s\n' 2 3 4) - || return 1
+        texts_chosen_for_machine $machine | diff <(printf 'vulfsjor-v%s.s\n' 2 3 4) - || return 1
     done
 }
 
 # What the preprocessor says of the machine, by -m32; a compiler that does not name its machine; and one with a
 # sanitizer, whose functions are not in the library.
-odd_compilers() {
+unusual_compilers_are_handled() {
     compiler_for || return 1
-    ! is_x86 || CFLAGS=-m32 texts_for x86_64-linux-gnu | diff <(echo vulfsjor.c) - || return 1
+    ! is_x86 || CFLAGS=-m32 texts_chosen_for_machine x86_64-linux-gnu | diff <(echo vulfsjor.c) - || return 1
     printf '#!/bin/sh\nexit 1\n' >"$work/silent" && chmod +x "$work/silent" &&
         refuses 1 "silent does not know -dumpmachine: use GCC or Clang" env CC="$work/silent" "$here/install.sh" \
             --from "$dist" "$work/no" &&
-        [ ! -e "$work/no" ] && CFLAGS=-fsanitize=address texts_for "$(cc -dumpmachine)" --portable &&
+        [ ! -e "$work/no" ] && CFLAGS=-fsanitize=address texts_chosen_for_machine "$(cc -dumpmachine)" --portable &&
         grep -e -shared "$work/compiled" && ! grep -e -Wl,-z,defs "$work/compiled"
 }
 
 # The package for CMake is for the size of a pointer of what is installed, and a later version would be for requests of
 # its minor version.
-size_of_pointers() {
+cmake_package_checks_pointer_size() {
     local size package=lib/cmake/vulfsjor/vulfsjor-config-version.cmake
-    install_one "$work/size" || return 1
+    install_once_over_other_archive "$work/size" || return 1
     for size in 4 8; do
         cp -R "$work/built" "$work/built$size" && sed -i "3s/.*/$size/" "$work/built$size/kind" &&
             "$here/install.sh" --built "$work/built$size" "$work/size$size" || return 1
@@ -633,9 +652,10 @@ END
 
 # CMake optimizes portable C for speed, whatever the type of build and the flags are: the last option counts. So does
 # install.sh.
-optimized() {
+portable_c_is_always_optimized() {
     local type build=$work/type
-    compiler_for && CFLAGS=-O0 texts_for riscv64-linux-gnu && grep 'vulfsjor\.c ' "$work/compiled" | grep -o -e '-O.' |
+    compiler_for && CFLAGS=-O0 texts_chosen_for_machine riscv64-linux-gnu && grep 'vulfsjor\.c ' "$work/compiled" |
+        grep -o -e '-O.' |
         diff - <(printf '%s\n' -O2 -O0 -O2{,} -O0 -O2) || return 1
     ! has cmake || for type in :-O2 Debug:-O2 Release:-O3 RelWithDebInfo:-O2 MinSizeRel:-O2 Other:-O2; do
         cmake -S "$here" -B "$build" -DVULFSJOR_PORTABLE=ON -DCMAKE_BUILD_TYPE="${type%:*}" -DCMAKE_C_FLAGS=-O0 &&
@@ -644,7 +664,7 @@ optimized() {
     done
 }
 
-refusals() {
+wrong_installations_are_refused() {
     local call=("$here/install.sh") words
     compiler_for && cd "$work" || return 1
     for words in riscv64 aarch64; do
@@ -663,41 +683,41 @@ refusals() {
         refuses 1 'was not made by --build' "${call[@]}" --built . no && [ ! -e no ] && [ ! -e --what ]
 }
 
-test_installing() {
-    check "a folder with a space, from the current one, moved and uninstalled" folder_with_a_space
-    check "a repository with a comma, and other options of the shell" folder_with_a_comma
-    check "DESTDIR and LIBDIR" package
-    check "a second installation" installs_again
-    check "a folder of the loader, and an upgrade" for_the_loader
-    check "what install.sh refuses" refusals
-    check "machines without assembly, and --portable" machines_without_assembly
-    check "compilers for 32 bits, without a name and with a sanitizer" odd_compilers
-    check_huge "how portable C is optimized" optimized
-    check "a project with the files by hand" vendored_by_hand
-    check "compilers of several words" compilers_of_words
+test_installation() {
+    check "a folder with a space, from the current one, moved and uninstalled" installs_into_folder_with_space
+    check "a repository with a comma, and other options of the shell" installs_from_folder_with_comma
+    check "DESTDIR and LIBDIR" installs_into_destdir_only
+    check "a second installation" reinstalls_over_old_files
+    check "a folder of the loader, and an upgrade" install_updates_loader_cache
+    check "what install.sh refuses" wrong_installations_are_refused
+    check "machines without assembly, and --portable" machines_without_assembly_get_portable_c
+    check "compilers for 32 bits, without a name and with a sanitizer" unusual_compilers_are_handled
+    check_huge "how portable C is optimized" portable_c_is_always_optimized
+    check "a project with the files by hand" sources_build_in_project_by_hand
+    check "compilers of several words" compiler_of_several_words_compiles_all
     needs cmake
-    check "a project with the files by CMake" vendored_by_cmake
-    check "what CMake chooses by the processor" chosen_by_cmake
-    check "the size of pointers in the package for CMake" size_of_pointers
-    check "find_package of an installation" installed_for_cmake
-    check "find_package after cmake --install" installed_by_cmake
-    check_huge "find_package after cmake --install of portable C" portable_by_cmake
+    check "a project with the files by CMake" cmake_builds_repository_as_part
+    check "what CMake chooses by the processor" cmake_chooses_sources_per_system
+    check "the size of pointers in the package for CMake" cmake_package_checks_pointer_size
+    check "find_package of an installation" cmake_package_is_found
+    check "find_package after cmake --install" cmake_installs_same_files
+    check_huge "find_package after cmake --install of portable C" cmake_installs_portable_library
     needs make
-    check "the variables of make" variables_of_make
-    check "what make builds again" built_again
-    check "make install and make uninstall" made_by_make
-    check "make install replaces no file of others" refuses_others &&
-        check_huge "make install next to files of others" made_next_to_others
-    check "the other names of the Makefile" run_by_make
+    check "the variables of make" make_variables_reach_tools
+    check "what make builds again" make_rebuilds_after_changes
+    check "make install and make uninstall" make_installs_and_uninstalls
+    check "make install replaces no file of others" make_keeps_files_of_others &&
+        check_huge "make install next to files of others" make_installs_next_to_others
+    check "the other names of the Makefile" make_targets_run_commands
     needs
     is_x86 || missing="the processor is not x86-64"
-    check "an installation with only one build" one_build
-    check "where the library comes from" comes_from
+    check "an installation with only one build" installs_one_build_without_choice
+    check "where the library comes from" library_comes_from
     needs pkg-config
     is_x86 || [ "$(uname -m)" = aarch64 ] || missing="portable C is one object"
-    check "a program of one call is small" small_programs
+    check "a program of one call is small" linked_programs_are_small
     needs pkg-config
-    check "the words of pkg-config" words_are_these
+    check "the words of pkg-config" pkg_config_prints_words
 }
 
-part test_installing
+run_part_of_tests test_installation

@@ -44,12 +44,12 @@ static uint8_t stack[DEPTH + 16 * 64];
 
 /* ---- What goes before a call. */
 
-static void nothing(void) {}
+static void do_nothing(void) {}
 
-static void start_keyed(void) { CHECK(!BLAKE(init_key)(&state, SIZE, key, MAX)); }
+static void init_keyed_state(void) { CHECK(!BLAKE(init_key)(&state, SIZE, key, MAX)); }
 
 static void init_and_update(void) {
-    start_keyed();
+    init_keyed_state();
     CHECK(!BLAKE(update)(&state, message, length));
 }
 
@@ -62,7 +62,7 @@ static void init_and_squeeze(void) {
     CHECK(!bytes_read || !BLAKE(squeeze)(&state, out, bytes_read));
 }
 
-static void start_read_and_reset(void) {
+static void init_read_and_reset(void) {
     init_and_squeeze();
     CHECK(!BLAKE(reset)(&state));
 }
@@ -92,15 +92,15 @@ static uint8_t saved[CONSTANT(SAVEDBYTES)]; /* a state without a key */
 static state_t several[LANES + 1];
 static size_t states, keyed;
 
-static void start_several(void) {
+static void init_several_states(void) {
     for (size_t i = 0; i < states; i++)
         CHECK(!(i == keyed || keyed == states ? BLAKE(init_key)(&several[i], MAX, key, MAX)
                                               : BLAKE(init)(&several[i], MAX)));
 }
 
 /* The last of them is not ready. */
-static void start_all_but_the_last(void) {
-    start_several();
+static void init_all_states_but_last(void) {
+    init_several_states();
     several[states - 1].output_size = 0;
 }
 
@@ -128,7 +128,7 @@ static int has_upper;
 #ifdef __x86_64__
 static uint8_t wide[64];
 extern unsigned char vulfsjor_ffi_level __attribute__((weak, visibility("hidden")));
-static int set_registers(void) {
+static int fill_registers_with_key(void) {
     __asm__ volatile("vmovdqu64 (%0), %%zmm16\nvmovdqu64 (%0), %%zmm31" : : "r"(wide));
     return 0;
 }
@@ -142,7 +142,7 @@ static void keep_registers(void) {}
 #endif
 
 /* Makes the call, and copies the stack below this frame before anything else, without a call. */
-static __attribute__((noinline)) int call_and_keep(int (*call)(void)) {
+static __attribute__((noinline)) int call_and_copy_stack(int (*call)(void)) {
     int status = call();
     const volatile uint8_t *from = (const uint8_t *)__builtin_frame_address(0) - DEPTH;
     volatile uint8_t *to = stack;
@@ -153,7 +153,7 @@ static __attribute__((noinline)) int call_and_keep(int (*call)(void)) {
 }
 
 /* How many pieces of the key, and of what is behind it, are the bytes here. */
-static int pieces_here(const uint8_t *here) {
+static int count_key_pieces_at(const uint8_t *here) {
     int found = 0;
 
     for (size_t piece = 0; piece < SECRETS; piece += PIECE)
@@ -162,21 +162,21 @@ static int pieces_here(const uint8_t *here) {
 }
 
 /* Counts the copies of pieces in `stack`. Most bytes there begin none. */
-static int pieces_on_stack(void) {
+static int count_key_pieces_on_stack(void) {
     uint8_t begins[256] = {0};
     int found = 0;
 
     for (size_t piece = 0; piece < SECRETS; piece += PIECE) begins[key[piece]] = 1;
     for (size_t at = 0; at + PIECE <= sizeof stack; at++)
-        if (begins[stack[at]]) found += pieces_here(stack + at);
+        if (begins[stack[at]]) found += count_key_pieces_at(stack + at);
     return found;
 }
 
-static int pieces_after(void (*before)(void), int (*call)(void)) {
+static int count_key_pieces_after_call(void (*before)(void), int (*call)(void)) {
     before();
     fill_stack();
-    CHECK(!call_and_keep(call));
-    return pieces_on_stack();
+    CHECK(!call_and_copy_stack(call));
+    return count_key_pieces_on_stack();
 }
 
 /* ---- Copies to be found. */
@@ -184,7 +184,7 @@ static int pieces_after(void (*before)(void), int (*call)(void)) {
 /* Copies the first `copied` bytes of the key into its frame, and behind them a byte that is not the
  * key's. That one ends `place` bytes below the end of `frame`. */
 static size_t place, copied;
-static __attribute__((noinline)) int leave_a_copy(void) {
+static __attribute__((noinline)) int leave_key_copy_on_stack(void) {
     uint8_t frame[DEPTH - 256], *behind = frame + sizeof frame - place - 1;
 
     memcpy(behind - copied, key, copied);
@@ -193,12 +193,12 @@ static __attribute__((noinline)) int leave_a_copy(void) {
     return 0;
 }
 
-static void finds_copies(void) {
+static void check_scan_finds_stack_copies(void) {
     static const size_t places[] = {0, 1, 7, 4096, 32 * 1024, DEPTH - 257 - SECRETS};
 
     for (size_t i = 0; i < COUNT_OF(places); i++)
         for (place = places[i], copied = 0; copied <= SECRETS; copied++)
-            CHECK(pieces_after(nothing, leave_a_copy) == (int)(copied / PIECE));
+            CHECK(count_key_pieces_after_call(do_nothing, leave_key_copy_on_stack) == (int)(copied / PIECE));
 }
 
 /* ---- All. */
@@ -206,7 +206,7 @@ static void finds_copies(void) {
 #ifdef TEST_X
 /* Sets what is looked for besides the key: the root hash, which is a digest under the key at the
  * node offset that has the length of the output in its upper bits, and a block of the output. */
-static void take_secrets(void) {
+static void compute_secrets_to_find(void) {
     static const vulfsjor_tree root_place = {(uint64_t)SIZE << 32, 0, 1, 1, 0, 0};
     SEQUENTIAL(state) root;
 
@@ -219,10 +219,10 @@ static void take_secrets(void) {
 #endif
 
 /* Sets the length of the message of all calls. */
-static void take_length(size_t bytes) {
+static void set_message_length(size_t bytes) {
     length = bytes;
 #ifdef TEST_X
-    take_secrets();
+    compute_secrets_to_find();
 #endif
     for (size_t i = 0; i < LANES; i++) messages[i] = (vulfsjor_message){message, length};
     messages[LANES] = (vulfsjor_message){message, length / 2};
@@ -233,13 +233,13 @@ static void take_length(size_t bytes) {
 
 /* Copies in the registers, of which each call clears those that it uses. It is a call itself:
  * inside main it would leave the key in registers that calls save on Windows. */
-static __attribute__((noinline)) void finds_registers(void) {
+static __attribute__((noinline)) void check_scan_finds_register_copies(void) {
 #ifdef __x86_64__
-    take_length(0);
+    set_message_length(0);
     has_upper = &vulfsjor_ffi_level != NULL && vulfsjor_ffi_level == 4;
     memcpy(wide, key, MAX);
     if (!has_upper) return;
-    CHECK(pieces_after(nothing, set_registers) == 2 * MAX / PIECE);
+    CHECK(count_key_pieces_after_call(do_nothing, fill_registers_with_key) == 2 * MAX / PIECE);
     __asm__ volatile("vpxord %xmm16, %xmm16, %xmm16\nvpxord %xmm31, %xmm31, %xmm31");
 #endif
 }
@@ -259,8 +259,8 @@ static void try_row(int line, const char *name, void (*before)(void), int wipes)
     for (size_t i = 0; i < COUNT_OF(lengths); i++) {
         int found;
 
-        take_length(lengths[i]);
-        found = pieces_after(before, call_row);
+        set_message_length(lengths[i]);
+        found = count_key_pieces_after_call(before, call_row);
         if (found > greatest) greatest = found;
         CHECK(!wipes || is_zero(&state, sizeof state));
     }
@@ -305,28 +305,28 @@ static int rows(int line) {
     static uint8_t salt[2 * MAX];
 #endif
 
-    ROW("init_key", nothing, 0, call_init_key());
-    ROW("init_key, refused for its length", start_keyed, 1, !BLAKE(init_key)(&state, NO_SIZE, key, MAX));
-    ROW("the hash in one call", nothing, 0, call_one_call());
-    ROW("update", start_keyed, 0, call_update());
+    ROW("init_key", do_nothing, 0, call_init_key());
+    ROW("init_key, refused for its length", init_keyed_state, 1, !BLAKE(init_key)(&state, NO_SIZE, key, MAX));
+    ROW("the hash in one call", do_nothing, 0, call_one_call());
+    ROW("update", init_keyed_state, 0, call_update());
     ROW("update, after an update", init_and_update, 0, call_update());
 #ifndef TEST_X
     ROW("final", init_and_update, 1, call_final());
 #endif
 #ifndef LIBB2_NAMES
-    ROW("init_salt_personal with a key", nothing, 0,
+    ROW("init_salt_personal with a key", do_nothing, 0,
         BLAKE(init_salt_personal)(&state, SIZE, key, MAX, salt, MAX / 4, salt, MAX / 4));
     /* Not by the header, which sets the state to zero before. */
-    ROW("init_salt_personal, refused for its salt", start_keyed, 1,
+    ROW("init_salt_personal, refused for its salt", init_keyed_state, 1,
         !LIBRARY(init_salt_personal)(&state, SIZE, key, MAX, salt, MAX / 4 + 1, salt, 0));
     ROW("reset", init_and_update, 0, BLAKE(reset)(&state));
     ROW("wipe", init_and_update, 1, (BLAKE(wipe)(&state), 0));
 #ifdef TEST_X
-    ROW("derive_key", nothing, 0, BLAKE(derive_key)(out, SIZE, key, MAX, message, length));
+    ROW("derive_key", do_nothing, 0, BLAKE(derive_key)(out, SIZE, key, MAX, message, length));
     ROW("squeeze, refused for its length", init_and_squeeze, 0, !BLAKE(squeeze)(&state, out, SIZE));
     ROW("update, refused after a squeeze", init_and_squeeze, 0, !BLAKE(update)(&state, message, length));
     ROW("reset, after a squeeze", init_and_squeeze, 0, BLAKE(reset)(&state));
-    ROW("update, after a squeeze and a reset", start_read_and_reset, 0, BLAKE(update)(&state, message, length));
+    ROW("update, after a squeeze and a reset", init_read_and_reset, 0, BLAKE(update)(&state, message, length));
     ROW("wipe, after a squeeze", init_and_squeeze, 1, (BLAKE(wipe)(&state), 0));
     for (size_t i = 0; i < 12; i++) {
         static const size_t lengths[] = {0, 7, MAX, LANES * MAX};
@@ -340,21 +340,21 @@ static int rows(int line) {
     ROW("verify, a right tag", init_and_update, 1, BLAKE(verify)(&state, tag, MAX));
     ROW("verify, a wrong tag", init_and_update, 1, !BLAKE(verify)(&state, wrong, MAX));
     ROW("verify, a tag of another length", init_and_update, 1, !BLAKE(verify)(&state, tag, MAX - 1));
-    ROW("vulfsjor_wipe of a copy of the key", nothing, 0, call_wipe_bytes());
-    ROW("vulfsjor_bin2hex and vulfsjor_hex2bin of the key", nothing, 0, call_hexadecimal());
-    ROW("which argument of a keyed call is refused, a null salt", nothing, 0,
+    ROW("vulfsjor_wipe of a copy of the key", do_nothing, 0, call_wipe_bytes());
+    ROW("vulfsjor_bin2hex and vulfsjor_hex2bin of the key", do_nothing, 0, call_hexadecimal());
+    ROW("which argument of a keyed call is refused, a null salt", do_nothing, 0,
         REFUSED(MAX, key, MAX, NULL, 1, NULL, 0) != VULFSJOR_ARGUMENT_SALT);
 #ifdef TEST_NODES
-    ROW("which argument of a keyed call is refused, its last", nothing, 0,
+    ROW("which argument of a keyed call is refused, its last", do_nothing, 0,
         REFUSED(MAX, key, MAX, salt, 1, salt, 1) != VULFSJOR_ARGUMENT_DEPTH);
-    ROW("init_tree with a key", nothing, 0,
+    ROW("init_tree with a key", do_nothing, 0,
         BLAKE(init_tree)(&state, MAX, key, MAX, salt, MAX / 4, salt, MAX / 4, &tree));
-    ROW("init_tree, refused for its depth", start_keyed, 1,
+    ROW("init_tree, refused for its depth", init_keyed_state, 1,
         !BLAKE(init_tree)(&state, MAX, key, MAX, salt, 0, salt, 0, &no_tree));
-    ROW("many, one message", nothing, 0, call_many_one());
-    ROW("many, four messages", nothing, 0, call_many_four());
-    ROW("many, as many as are hashed at once", nothing, 0, call_many_lanes());
-    ROW("many, one more, of another length", nothing, 0, call_many_more());
+    ROW("many, one message", do_nothing, 0, call_many_one());
+    ROW("many, four messages", do_nothing, 0, call_many_four());
+    ROW("many, as many as are hashed at once", do_nothing, 0, call_many_lanes());
+    ROW("many, one more, of another length", do_nothing, 0, call_many_more());
     for (size_t i = 0; i < 10; i++) {
         static const size_t counts[] = {1, 3, 4, 4, LANES, LANES, LANES, LANES, LANES + 1, LANES + 1},
                             places[] = {0, 2, 0, 4, 0, 3, LANES - 1, LANES, LANES, LANES + 1};
@@ -362,19 +362,19 @@ static int rows(int line) {
 
         if (!line) states = counts[i], keyed = places[i];
         if (!line) snprintf(name, sizeof name, "update_many, %zu states, key in %zu (%zu: all)", states, keyed, states);
-        ROW(name, start_several, 0, BLAKE(update_many)(several, messages, states));
-        ROW("update_many, refused for the last of these", start_all_but_the_last, 0,
+        ROW(name, init_several_states, 0, BLAKE(update_many)(several, messages, states));
+        ROW("update_many, refused for the last of these", init_all_states_but_last, 0,
             !BLAKE(update_many)(several, messages, states));
     }
     ROW("set_last_node", init_and_update, 0, BLAKE(set_last_node)(&state, 1));
-    ROW("save, refused for the key", start_keyed, 0, !BLAKE(save)(&state, saved));
+    ROW("save, refused for the key", init_keyed_state, 0, !BLAKE(save)(&state, saved));
     ROW("save, refused for the key, after an update", init_and_update, 0, !BLAKE(save)(&state, saved));
     /* Not by the header, which sets the state to zero before. */
     ROW("load over a keyed state, refused", init_and_update, 1, !LIBRARY(load)(&state, saved, sizeof saved - 1));
     ROW("load over a keyed state", init_and_update, 0,
         LIBRARY(load)(&state, saved, sizeof saved) || !is_zero(state.key, sizeof state.key));
 #else
-    ROW("which argument of a keyed call is refused, its last", nothing, 0,
+    ROW("which argument of a keyed call is refused, its last", do_nothing, 0,
         REFUSED(MAX, key, MAX, salt, MAX / 4, salt, MAX) != VULFSJOR_ARGUMENT_PERSONAL);
 #endif
 #endif
@@ -386,12 +386,12 @@ int main(void) {
     /* No piece begins with 0x55, of which the stack is full. */
     for (size_t i = 0; i < MAX; i++) key[i] = (uint8_t)(0xA6 ^ (i * 37) ^ (i * i));
     for (size_t i = 0; i < LONGEST; i++) message[i] = (uint8_t)(i * 11 + 3 + (i >> 4) * 5);
-    take_length(0);
+    set_message_length(0);
 #ifdef TEST_NODES
     CHECK(!BLAKE(init)(&state, MAX) && !BLAKE(update)(&state, message, 9) && !BLAKE(save)(&state, saved));
 #endif
-    finds_copies();
-    finds_registers();
+    check_scan_finds_stack_copies();
+    check_scan_finds_register_copies();
     rows(0);
     return fails != 0;
 }

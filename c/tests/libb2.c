@@ -24,8 +24,8 @@ enum { DIES = 1000 };
 #include <sys/wait.h>
 #include <unistd.h>
 enum { IS_LIBB2 = 1 };
-#define STATUS(call) (fork_is_child() ? (_exit((call) & 0xff), 0) : child_status())
-static int fork_is_child(void) {
+#define STATUS(call) (fork_in_child() ? (_exit((call) & 0xff), 0) : child_status())
+static int fork_in_child(void) {
     fflush(stdout);
     pid_t child = fork();
     if (child < 0) abort();
@@ -63,7 +63,7 @@ static void check_null_pointers(void) {
     CHECK(PLAIN_ONE_CALL(out, "a", NULL, MAX, 1, 1) == -1 && PLAIN_ONE_CALL(out, NULL, NULL, MAX, 0, 0) == 0);
 }
 
-static void check_lengths(void) {
+static void check_wrong_lengths(void) {
     PLAIN(state) S;
     CHECK(sizeof S == SIZE && __alignof__(PLAIN(state)) == 1);
     CHECK(offsetof(PLAIN(state), outlen) == SIZE - (IS_PARALLEL ? 1 : 2) && sizeof(state_t) < SIZE);
@@ -88,7 +88,7 @@ static void check_lengths(void) {
 }
 
 /* A state at any address, which others follow without a gap, and copies of its bytes at other addresses. */
-static void check_addresses(void) {
+static void check_states_at_any_address(void) {
     enum { ROOM = 2 * SIZE + 16 };
     uint8_t wanted[MAX], room[ROOM];
     CHECK(ONE_CALL(wanted, MAX, message, 900, message + 7, MAX) == 0);
@@ -109,7 +109,7 @@ static void check_addresses(void) {
 }
 
 /* Once the key's block is compressed, the state has no byte of the key: libb2 has no reset. */
-static void check_key(void) {
+static void check_no_key_byte_stays(void) {
     uint8_t key[MAX];
     PLAIN(state) S;
     memset(key, 0x5b, MAX);
@@ -120,7 +120,7 @@ static void check_key(void) {
 }
 
 /* Calls with a state after finalization, and with a zeroed state. */
-static void check_without_state(void) {
+static void check_ended_and_zeroed_states(void) {
     PLAIN(state) S, before;
     CHECK(PLAIN(init)(&S, MAX) == 0 && PLAIN(update)(&S, message, 2000) == 0 && PLAIN(final)(&S, out, MAX) == 0);
     CHECK(IS_WIPED(S));
@@ -132,7 +132,7 @@ static void check_without_state(void) {
 }
 
 /* A digest in two pieces, and none of another length; the conformance cases have more pieces, and copies. */
-static void check_in_pieces(void) {
+static void check_digest_in_two_pieces(void) {
     for (size_t size = 1; size <= MAX; size++) {
         const size_t keys = size % 3 ? size : 0, length = 61 * size, first = random_below(length);
         uint8_t wanted[MAX];
@@ -150,7 +150,7 @@ static void check_in_pieces(void) {
 }
 
 /* The output may overlap the input or the key. */
-static void check_overlaps(void) {
+static void check_overlapping_buffers(void) {
     uint8_t wanted[MAX], mixed[2000];
     CHECK(ONE_CALL(wanted, MAX, message, 2000, message + 40, MAX) == 0);
     for (size_t at = 0; at + MAX <= 2000; at += 113) {
@@ -162,27 +162,27 @@ static void check_overlaps(void) {
 }
 
 #ifndef TEST_P
-static int status_of(PLAIN(state) *S, uint8_t digest, uint8_t keys) {
+static int init_status_of_block(PLAIN(state) *S, uint8_t digest, uint8_t keys) {
     PLAIN(param) P;
     memset(&P, 0, sizeof P);
     P.digest_length = digest, P.key_length = keys, P.fanout = P.depth = 1;
     return PLAIN(init_param)(S, &P);
 }
 
-static void check_blocks(void) {
+static void check_parameter_blocks(void) {
     PLAIN(state) S;
-    CHECK(STATUS(status_of(null_state(), MAX, 0)) == ROW(DIES, -1));
+    CHECK(STATUS(init_status_of_block(null_state(), MAX, 0)) == ROW(DIES, -1));
     CHECK(STATUS(PLAIN(init_param)(&S, NULL)) == ROW(DIES, -1));
     for (int length = 0; length <= 255; length++) {
         const int is_digest = length >= 1 && length <= MAX;
-        CHECK(status_of(&S, (uint8_t)length, 0) == ROW(0, is_digest ? 0 : -1));
+        CHECK(init_status_of_block(&S, (uint8_t)length, 0) == ROW(0, is_digest ? 0 : -1));
         CHECK(IS_LIBB2 || is_digest ? S.outlen == length && S.last_node == 0 : is_zero(&S, sizeof S));
-        CHECK(status_of(&S, MAX, (uint8_t)length) == ROW(0, length <= MAX ? 0 : -1));
+        CHECK(init_status_of_block(&S, MAX, (uint8_t)length) == ROW(0, length <= MAX ? 0 : -1));
     }
 }
 
 /* A count that would pass 2^64 is refused, and the state stays. In libb2 the counter has another place. */
-static void check_counter(void) {
+static void check_count_past_2_to_64(void) {
     const size_t at = IS_LIBB2 ? offsetof(PLAIN(state), t) : offsetof(state_t, counter);
     PLAIN(state) S, before;
     CHECK(PLAIN(init)(&S, MAX) == 0);
@@ -193,7 +193,7 @@ static void check_counter(void) {
 }
 
 /* The last-node flag is any value but 0. */
-static void check_last_node(void) {
+static void check_last_node_flag(void) {
     /* The first bytes of hashlib.blake2b(last_node=True).digest(), and of blake2s. */
 #ifdef TEST_S
     static const uint8_t wanted[] = {0x24, 0xfc, 0x11, 0x3c, 0x3d, 0xbe, 0x8c, 0x84};
@@ -212,7 +212,7 @@ static void check_last_node(void) {
 
 #ifdef VULFSJOR_LIBB2_BLAKE2_H
 /* What only the header has: the constants, and blake2, which is blake2b. */
-static void check_header(void) {
+static void check_header_constants(void) {
     uint8_t other[64];
     CHECK(BLAKE2B_BLOCKBYTES == 128 && BLAKE2B_OUTBYTES == 64 && BLAKE2B_KEYBYTES == 64 && BLAKE2B_SALTBYTES == 16);
     CHECK(BLAKE2S_BLOCKBYTES == 64 && BLAKE2S_OUTBYTES == 32 && BLAKE2S_KEYBYTES == 32 && BLAKE2S_SALTBYTES == 8);
@@ -229,18 +229,18 @@ int main(void) {
     for (size_t i = 0; i < sizeof message; i++) message[i] = (uint8_t)(i % 251);
     check_null_pointers(); /* first: no process may fork once libb2 has threads */
 #ifndef TEST_P
-    check_blocks();
-    check_counter();
-    check_last_node();
+    check_parameter_blocks();
+    check_count_past_2_to_64();
+    check_last_node_flag();
 #endif
-    check_lengths();
-    check_without_state();
-    check_in_pieces();
-    check_addresses();
-    check_key();
-    check_overlaps();
+    check_wrong_lengths();
+    check_ended_and_zeroed_states();
+    check_digest_in_two_pieces();
+    check_states_at_any_address();
+    check_no_key_byte_stays();
+    check_overlapping_buffers();
 #ifdef VULFSJOR_LIBB2_BLAKE2_H
-    check_header();
+    check_header_constants();
 #endif
     printf("%d checks, %d failures\n", checks, fails);
     return fails != 0;

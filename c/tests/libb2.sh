@@ -7,7 +7,7 @@ beside=$prefix/lib/libvulfsjor-libb2.a
 
 # The conformance cases by libb2's names, from a shared library of them. A parameter block may have a depth of 0 and any
 # inner length, as in libb2.
-names_conform() {
+libb2_names_pass_conformance_cases() {
     printf '%s\n' '#define VULFSJOR_LIBB2_FUNCTION' '#include <blake2.h>' >"$work/names.c" &&
         cc $quick -shared -fPIC -I"$libb2" "$work/names.c" "$archive" -o "$work/names.so" &&
         "$top/tests/conformance/others.py" --libb2 "$work/names.so" "$conforming" >"$work/rows" &&
@@ -21,50 +21,50 @@ END
 
 # What PORTING.md says of libb2 itself, in one program with this library, linked in this order. With fewer threads than
 # it has leaves libb2 then returns another digest, and no error, which no other line than those of digests says.
-said_of_libb2() { names_of_libb2 "$1" -DLIBB2 -w "${@:2}"; }
-too_few_threads() {
-    said_of_libb2 "$1" -lb2 "$archive" && ! OMP_THREAD_LIMIT=1 "$work/libb2" 2>"$work/said" &&
+libb2_itself_behaves_as_documented() { run_libb2_names_test "$1" -DLIBB2 -w "${@:2}"; }
+libb2_fails_with_too_few_threads() {
+    libb2_itself_behaves_as_documented "$1" -lb2 "$archive" && ! OMP_THREAD_LIMIT=1 "$work/libb2" 2>"$work/said" &&
         ! grep -v 'not !memcmp(.*, wanted' "$work/said"
 }
 
 # What calls by libb2's names leave of a key on the dead stack.
-keys_of_names() {
+libb2_names_leave_no_keys() {
     cc -std=gnu99 -O2 "${warnings[@]}" -Wl,-z,now -I"$include" -DLIBB2_NAMES \
-        $(family_words "$1") -o "$work/key_scan" "$tests/key_scan.c" "$beside" && "$work/key_scan"
+        $(family_macro_words "$1") -o "$work/key_scan" "$tests/key_scan.c" "$beside" && "$work/key_scan"
 }
 
 # The names that a shared library shows.
-shown_names() { nm -D --defined-only --format=posix "$1" | cut -d ' ' -f 1 | LC_ALL=C sort; }
-libb2_names() {
+exported_names() { nm -D --defined-only --format=posix "$1" | cut -d ' ' -f 1 | LC_ALL=C sort; }
+names_of_real_libb2() {
     printf '%s\n' blake2{b,s,bp,sp}{,_init,_init_key,_update,_final} blake2{b,s}_init_param | LC_ALL=C sort
 }
 
 # libb2.so.1, which is installed only if that is asked for: with the files, the names and the soname of libb2's, and no
 # other library; and gone after an uninstallation.
-shared_libb2() {
+installs_libb2_shared_library() {
     local folder=$work/shared one=()
     ! is_x86 || one=(--cpu "x86-64-v$level")
     CFLAGS=$quick "$here/install.sh" "${one[@]}" --from "$dist" --libb2-shared "$folder" &&
-        { wanted_files lib/ && printf 'lib/vulfsjor-libb2/libb2.so.%s\n' 1 1.0.4; } | LC_ALL=C sort |
+        { expected_installed_files lib/ && printf 'lib/vulfsjor-libb2/libb2.so.%s\n' 1 1.0.4; } | LC_ALL=C sort |
         diff - <(files_below "$folder") || return
     cp -P "$folder"/lib/vulfsjor-libb2/libb2.so.1* "$work/" && [ "$(readlink "$work/libb2.so.1")" = libb2.so.1.0.4 ] &&
-        libb2_names | diff - <(shown_names "$work/libb2.so.1") &&
+        names_of_real_libb2 | diff - <(exported_names "$work/libb2.so.1") &&
         readelf -d "$work/libb2.so.1" >"$work/dynamic" && grep 'SONAME.*\[libb2.so.1\]' "$work/dynamic" &&
         [ "$(sed -n 's/.*NEEDED.*\[\(.*\)\]/\1/p' "$work/dynamic")" = libc.so.6 ] &&
         "$here/install.sh" --uninstall "$folder" && [ -z "$(files_below "$folder")" ]
 }
 
 # Made by hand, of the source it shows the same names, and of all of libb2.a it does not link.
-libb2_by_hand() {
+libb2_library_links_by_hand() {
     cc -shared -fPIC "$here/libb2/libb2.c" "$archive" -o "$work/by_hand.so" &&
-        libb2_names | diff - <(shown_names "$work/by_hand.so") &&
+        names_of_real_libb2 | diff - <(exported_names "$work/by_hand.so") &&
         ! cc -shared -Wl,--whole-archive "$beside" -Wl,--no-whole-archive -o "$work/by_hand.so" 2>"$work/said" &&
         grep libb2_so_is_made_by_install_sh_libb2_shared "$work/said"
 }
 
 # Debian's rdiff, which needs libb2.so.1, over that in a folder: a signature, which is to be that by libb2 itself, a
 # delta of another file, and the file again. FOLDER
-rdiff_rounds() {
+rdiff_works_over_library() {
     local round options
     cd "$work" && ldd "$(command -v rdiff)" | grep -F libb2.so.1 && cp "$here/include/vulfsjor.h" basis || return
     for round in 1 2 3 4 5; do
@@ -77,32 +77,32 @@ rdiff_rounds() {
             [ "$(stat -c %s delta)" -lt 60000 ] || return
     done
 }
-rdiff_with_another_bit() {
+rdiff_detects_flipped_bit() {
     mkdir -p "$work/planted" && perl -pe 's/\x67\xe6\x09\x6a/\x67\xe6\x09\x6b/g' "$work/libb2.so.1" \
-        >"$work/planted/libb2.so.1" && ! rdiff_rounds "$work/planted" >"$work/said" &&
+        >"$work/planted/libb2.so.1" && ! rdiff_works_over_library "$work/planted" >"$work/said" &&
         grep '^ours theirs differ' "$work/said"
 }
 
 # The column of a library in the table of sizes of PORTING.md: COLUMN WORDS PROGRAM
-sizes_of_page() {
+porting_page_has_state_sizes() {
     printf '#include <stdio.h>\n%s\nint main(void) { %s return 0; }\n' "$2" "$3" >"$work/sizes.c" &&
         cc -std=c99 -I"$include" -o "$work/sizes" "$work/sizes.c" && "$work/sizes" >"$work/sizes.txt" &&
         awk -F '  +' -v column="$1" '/^state  /, $0 == "```" { if ($column ~ /^[0-9]+$/) print $column }' \
             "$here/PORTING.md" | diff - "$work/sizes.txt"
 }
-sizes_here() {
-    sizes_of_page 2 '#include <vulfsjor.h>' "$(printf 'printf("%%zu\\n", sizeof(vulfsjor_%s_state));' \
+page_has_our_state_sizes() {
+    porting_page_has_state_sizes 2 '#include <vulfsjor.h>' "$(printf 'printf("%%zu\\n", sizeof(vulfsjor_%s_state));' \
         blake2{b,s,bp,sp,xb,xs} tree)"
 }
-sizes_of_libb2() {
-    sizes_of_page 3 '#include <stddef.h>
+page_has_libb2_state_sizes() {
+    porting_page_has_state_sizes 3 '#include <stddef.h>
 #include <blake2.h>' "$(printf 'printf("%%zu\\n", sizeof(blake2%s_state));' b s bp sp)"
 }
-sizes_of_libsodium() {
-    sizes_of_page 4 '#include <sodium.h>' 'printf("%zu\n", sizeof(crypto_generichash_state));'
+page_has_libsodium_state_size() {
+    porting_page_has_state_sizes 4 '#include <sodium.h>' 'printf("%zu\n", sizeof(crypto_generichash_state));'
 }
 # What PORTING.md says of libsodium's calls.
-said_of_libsodium() {
+libsodium_behaves_as_documented() {
     cc -std=c99 -O1 "${warnings[@]}" -I"$include" "$here/tests/libsodium.c" -lsodium "$archive" \
         -o "$work/said_of_libsodium" && "$work/said_of_libsodium"
 }
@@ -110,7 +110,7 @@ has_libsodium() { echo '#include <sodium.h>' | cc -fsyntax-only -x c - 2>/dev/nu
 
 # What a configure script does to find libb2: a program that names its functions and has no header of
 # it.
-configure_finds() {
+configure_check_finds_libb2() {
     printf '%s\n' blake2{b,s,bp,sp}{,_init,_init_key,_update,_final} blake2{b,s}_init_param |
         sed 's/.*/char &(void);/' >"$work/conftest.c"
     sed 's/char \(.*\)(void);/\1() +/; 1s/^/int main(void) { return /; $s/+$/; }/' \
@@ -122,13 +122,13 @@ configure_finds() {
 }
 
 # Whether libb2 has threads, as it has where it was built with OpenMP.
-libb2_has_threads() { links -Wl,--no-as-needed -lb2 && ldd "$work/linked" | grep -q libgomp; }
+libb2_has_threads() { links_with_words -Wl,--no-as-needed -lb2 && ldd "$work/linked" | grep -q libgomp; }
 
-has_libb2() { links -lb2 && echo '#include <blake2.h>' | cc -fsyntax-only -x c - 2>/dev/null; }
+has_libb2() { links_with_words -lb2 && echo '#include <blake2.h>' | cc -fsyntax-only -x c - 2>/dev/null; }
 
 # libb2's own test program, which includes its known answers: over the header of libb2's name here,
 # or over libb2's own with the functions by their own names.
-libb2_test() {
+libb2_own_test_passes() {
     local name=$1 source=$fetched/libb2/src words=(-I"$libb2" "$archive")
     [ "$2" = header ] || words=(-I"$source" "$beside")
     mkdir -p "$work/test_of_libb2"
@@ -139,7 +139,7 @@ libb2_test() {
 
 # librsync, whose search for libb2 finds what is installed here, with this folder of headers; and
 # its own tests.
-librsync_tests() {
+librsync_tests_pass() {
     local headers=$1 build=$work/librsync
     rm -rf "$build"
     cmake -S "$fetched/librsync" -B "$build" -DUSE_LIBB2=ON -DCMAKE_BUILD_TYPE=Debug \
@@ -150,59 +150,60 @@ librsync_tests() {
         ctest --output-on-failure
 }
 
-test_sources() {
+test_sources_of_libb2_and_librsync() {
     local name
     needs_sources libb2
     for name in blake2b blake2s blake2bp blake2sp; do
-        check "libb2's $name-test.c over the header" libb2_test $name header
-        check "libb2's $name-test.c over its own header" libb2_test $name names
+        check "libb2's $name-test.c over the header" libb2_own_test_passes $name header
+        check "libb2's $name-test.c over its own header" libb2_own_test_passes $name names
     done
     [ -z "${VULFSJOR_TEST_HUGE-}" ] || needs_sources librsync
     has cmake || missing="no cmake"
-    check_huge "librsync's own tests over the header" librsync_tests "$libb2"
+    check_huge "librsync's own tests over the header" librsync_tests_pass "$libb2"
     mkdir -p "$work/own" && cp "$fetched/libb2/src/blake2.h" "$work/own/" 2>/dev/null
-    check_huge "librsync's own tests over libb2's header" librsync_tests "$work/own"
+    check_huge "librsync's own tests over libb2's header" librsync_tests_pass "$work/own"
     needs
 }
 
-test_libb2() {
+test_libb2_compatibility() {
     local family
     check "libb2.c without a warning" cc -std=c99 -O2 "${warnings[@]}" -c "$here/libb2/libb2.c" \
         -o "$work/libb2.o"
-    check "a configure script finds libb2" configure_finds
-    check "libb2.so.1" shared_libb2
-    check "libb2.so.1 by hand" libb2_by_hand
+    check "a configure script finds libb2" configure_check_finds_libb2
+    check "libb2.so.1" installs_libb2_shared_library
+    check "libb2.so.1 by hand" libb2_library_links_by_hand
     needs rdiff perl
-    check "Debian's rdiff over libb2.so.1" rdiff_rounds "$work"
-    check_huge "Debian's rdiff over a libb2.so.1 with a wrong bit" rdiff_with_another_bit
+    check "Debian's rdiff over libb2.so.1" rdiff_works_over_library "$work"
+    check_huge "Debian's rdiff over a libb2.so.1 with a wrong bit" rdiff_detects_flipped_bit
     needs
     for family in b bp s sp; do
-        check "libb2's names by the header here, blake2$family" names_of_libb2 $family -I"$libb2" "$archive"
+        check "libb2's names by the header here, blake2$family" run_libb2_names_test $family -I"$libb2" "$archive"
     done
-    check "the sizes of states in PORTING.md" sizes_here
+    check "the sizes of states in PORTING.md" page_has_our_state_sizes
     has_libsodium || missing="no libsodium-dev"
-    check "the size of libsodium's state in PORTING.md" sizes_of_libsodium
-    check "what is said of libsodium" said_of_libsodium
+    check "the size of libsodium's state in PORTING.md" page_has_libsodium_state_size
+    check "what is said of libsodium" libsodium_behaves_as_documented
     needs python3
-    check "the conformance cases by libb2's names" names_conform
+    check "the conformance cases by libb2's names" libb2_names_pass_conformance_cases
     has_libb2 || missing="no libb2"
     for family in b s bp sp; do
-        check "libb2's names with its own header, blake2$family" names_of_libb2 $family "$beside"
-        check_once "libb2.so.1 with its own header, blake2$family" names_of_libb2 $family "$work/libb2.so.1" \
+        check "libb2's names with its own header, blake2$family" run_libb2_names_test $family "$beside"
+        check_family_once "libb2.so.1 with its own header, blake2$family" run_libb2_names_test $family \
+            "$work/libb2.so.1" \
             "$archive" -Wl,-rpath,"$work"
-        check "what is said of libb2 itself, blake2$family" said_of_libb2 $family -lb2 "$archive"
-        check "key_scan.c by libb2's names, blake2$family" keys_of_names $family
+        check "what is said of libb2 itself, blake2$family" libb2_itself_behaves_as_documented $family -lb2 "$archive"
+        check "key_scan.c by libb2's names, blake2$family" libb2_names_leave_no_keys $family
     done
-    check "the sizes of libb2's states in PORTING.md" sizes_of_libb2
-    check "libb2 after this library" said_of_libb2 b "$archive" -lb2
-    check "libb2 after the shared library" said_of_libb2 b "$shared" -lb2 -Wl,-rpath,"$prefix/lib"
-    check "libb2 before the shared library" said_of_libb2 b -lb2 "$shared" -Wl,-rpath,"$prefix/lib"
+    check "the sizes of libb2's states in PORTING.md" page_has_libb2_state_sizes
+    check "libb2 after this library" libb2_itself_behaves_as_documented b "$archive" -lb2
+    check "libb2 after the shared library" libb2_itself_behaves_as_documented b "$shared" -lb2 -Wl,-rpath,"$prefix/lib"
+    check "libb2 before the shared library" libb2_itself_behaves_as_documented b -lb2 "$shared" -Wl,-rpath,"$prefix/lib"
     libb2_has_threads || missing=${missing:-"libb2 has no threads"}
     for family in bp sp; do
-        check "libb2 with too few threads, blake2$family" too_few_threads $family
+        check "libb2 with too few threads, blake2$family" libb2_fails_with_too_few_threads $family
     done
     needs
-    test_sources
+    test_sources_of_libb2_and_librsync
 }
 
-part test_libb2 cases
+run_part_of_tests test_libb2_compatibility cases

@@ -5,7 +5,7 @@
 #include <vulfsjor.h>
 
 /* Says that something is not so. Returns 1, or 0 if it is. */
-static int wrong(int is_so, const char *what) {
+static int report_unless(int is_so, const char *what) {
     if (!is_so) printf("not so: %s\n", what);
     return !is_so;
 }
@@ -21,7 +21,7 @@ int main(void) {
     if (sodium_init() < 0) return 1;
     if (crypto_generichash(there, 32, message, 15, NULL, 0)) return 1;
     if (vulfsjor_blake2b(here, 32, message, 15, NULL, 0)) return 1;
-    count += wrong(!vulfsjor_memcmp(there, here, 32), "a hash in one call is the same");
+    count += report_unless(!vulfsjor_memcmp(there, here, 32), "a hash in one call is the same");
 
     if (crypto_generichash_init(&theirs, key, 32, 16)) return 1;
     if (crypto_generichash_update(&theirs, message, 15)) return 1;
@@ -29,20 +29,21 @@ int main(void) {
     if (vulfsjor_blake2b_init_key(&ours, 16, key, 32)) return 1;
     if (vulfsjor_blake2b_update(&ours, message, 15)) return 1;
     if (vulfsjor_blake2b_final(&ours, here, 16)) return 1;
-    count += wrong(!vulfsjor_memcmp(there, here, 16), "a tag is the same");
-    count += wrong(crypto_generichash_update(&theirs, message, 15) == 0, "an update after final returns 0 there");
-    count += wrong(vulfsjor_blake2b_update(&ours, message, 15) == -1, "it returns -1 here");
-    count += wrong(crypto_generichash_statebytes() >= sizeof ours, "a state fits");
+    count += report_unless(!vulfsjor_memcmp(there, here, 16), "a tag is the same");
+    count += report_unless(crypto_generichash_update(&theirs, message, 15) == 0,
+                           "an update after final returns 0 there");
+    count += report_unless(vulfsjor_blake2b_update(&ours, message, 15) == -1, "it returns -1 here");
+    count += report_unless(crypto_generichash_statebytes() >= sizeof ours, "a state fits");
 
     if (crypto_generichash_blake2b_salt_personal(there, 32, message, 15, key, 32, salt, personal)) return 1;
     if (vulfsjor_blake2b_init_salt_personal(&ours, 32, key, 32, salt, 16, personal, 16)) return 1;
     if (vulfsjor_blake2b_update(&ours, message, 15)) return 1;
     if (vulfsjor_blake2b_final(&ours, here, 32)) return 1;
-    count += wrong(!vulfsjor_memcmp(there, here, 32), "a tag with a salt and a personalization is the same");
+    count += report_unless(!vulfsjor_memcmp(there, here, 32), "a tag with a salt and a personalization is the same");
 
     if (crypto_kdf_derive_from_key(there, 32, 258, "invoices", key)) return 1;
     if (vulfsjor_blake2b_init_salt_personal(&ours, 32, key, 32, id, 8, "invoices", 8)) return 1;
     if (vulfsjor_blake2b_final(&ours, here, 32)) return 1;
-    count += wrong(!vulfsjor_memcmp(there, here, 32), "a derived key is the same");
+    count += report_unless(!vulfsjor_memcmp(there, here, 32), "a derived key is the same");
     return count != 0;
 }

@@ -10,7 +10,7 @@ linker=$(command -v ld64.lld || command -v ld64.lld-14)
 lipo=$(command -v llvm-lipo || command -v llvm-lipo-14)
 
 # What the library and the programs need of the C library of macOS; clang has the headers that no system has to have.
-write_sdk() {
+write_stand_in_sdk() {
     local names
     mkdir -p "$sdk"/usr/{include/{sys,malloc},lib}
     printf '%s\n' '#include <stddef.h>' 'void abort(void);' 'void *malloc(size_t);' \
@@ -84,17 +84,17 @@ write_sdk() {
 }
 
 # The compiler for a processor, as a command of one word.
-write_compiler() {
+write_macos_compiler_command() {
     printf '%s\n' '#!/bin/sh' "exec clang --target=$1-apple-macos11 -isysroot \"$sdk\" \
 -fuse-ld=\"$linker\" -mlinker-version=609 -Wno-unused-command-line-argument \"\$@\"" >"$work/$1" &&
         chmod +x "$work/$1"
 }
 
 # What is installed; the functions that the library shows; and a program that needs only those.
-installs() {
+installs_for_macos() {
     local folder=$work/installed_$1 names=$work/names
     CC=$work/$1 CFLAGS=$quick "$here/install.sh" --from "$dist" "$folder" &&
-        files_come_and_go "$folder" macos &&
+        files_are_installed_and_removed "$folder" macos &&
         sed -n 's/^ *\(vulfsjor_.*\);$/_\1/p' "$here/vulfsjor.map" | LC_ALL=C sort >"$names" &&
         llvm-nm -gU "$folder/lib/libvulfsjor.1.dylib" | awk '{ print $3 }' | LC_ALL=C sort |
         diff - "$names" &&
@@ -103,36 +103,36 @@ installs() {
 }
 
 # Whether an object is for both processors of a Mac, with the functions of each.
-is_universal() {
+object_is_universal() {
     "$lipo" "$1" -verify_arch arm64 x86_64 &&
         llvm-nm --arch=x86_64 "$1" | grep -q ' T _vulfsjor_ffi_blake2b_.*_v4$' &&
         llvm-nm --arch=arm64 "$1" | grep -q ' T _vulfsjor_ffi_blake2b_.*_arm$'
 }
 
 # CMake makes it. If one of the processors has no text, it compiles portable C for all. lipo is LLVM's.
-makes_universal() {
+cmake_builds_universal_library() {
     local build=$work/universal words
     mkdir -p "$build/bin" && ln -sf "$lipo" "$build/bin/lipo" && export PATH=$build/bin:$PATH || return 1
     words=(-DCMAKE_SYSTEM_NAME=Darwin -DCMAKE_C_COMPILER="$work/arm64" -DCMAKE_OSX_SYSROOT="$sdk"
         -DCMAKE_TRY_COMPILE_TARGET_TYPE=STATIC_LIBRARY)
     cmake -S "$here" -B "$build" "${words[@]}" -DCMAKE_SYSTEM_PROCESSOR=arm64 \
         -DCMAKE_OSX_ARCHITECTURES="arm64;x86_64" &&
-        cmake --build "$build" && is_universal "$(find "$build" -name vulfsjor.S.o)" &&
+        cmake --build "$build" && object_is_universal "$(find "$build" -name vulfsjor.S.o)" &&
         cmake -S "$here" -B "$build/other" "${words[@]}" -DCMAKE_OSX_ARCHITECTURES="arm64;i386" &&
         grep -q "dist/c/vulfsjor\.c" "$build/other/CMakeFiles/vulfsjor.dir/build.make" &&
         ! grep -q "vulfsjor\.S" "$build/other/CMakeFiles/vulfsjor.dir/build.make"
 }
 
 # A program is linked, and calls what the list above has.
-builds_program() {
+program_links_for_macos() {
     CC=$work/$1 "$top/$2" --build "$work/$2_$1" && llvm-objdump --macho --private-header \
         "$work/$2_$1" | grep -q EXECUTE
 }
 
 # In the linked program the assembly calls the functions of C that are in the place of three of its own, and
 # C the proved one. If they were weak in the text, as ELF has it, the text would call its own.
-calls_in_program() {
-    builds_program "$1" b2sum && llvm-objdump --macho -d --no-show-raw-insn "$work/b2sum_$1" |
+program_calls_c_and_proved_functions() {
+    program_links_for_macos "$1" b2sum && llvm-objdump --macho -d --no-show-raw-insn "$work/b2sum_$1" |
         awk '/^_.*:$/ { own = substr($1, 1, length($1) - 1); print "has", own }
             /\t(callq|bl)\t/ { print own, $NF }' |
         sed -E 's/_b2sum\.\.(disk|hashes)\.\.([a-z_]*)(\.\.[0-9a-f]*)?(\.\.?proved)?_[0-9_]*_[a-z0-9]*/\2\4/g' |
@@ -146,7 +146,7 @@ calls_in_program() {
 
 # apple_arguments.c by Apple's convention: as assembly for macOS, whose names are then written as ELF
 # has them.
-apple_arguments_run() {
+apple_calling_convention_works() {
     local wanted
     mapfile -t wanted < <(python3 -c 'import hashlib
 for name, function, size in ("B", hashlib.blake2b, 64), ("S", hashlib.blake2s, 32):
@@ -167,7 +167,7 @@ for name, function, size in ("B", hashlib.blake2b, 64), ("S", hashlib.blake2s, 3
         qemu-aarch64 "$work/apple_arguments"
 }
 
-test_macos() {
+test_macos_builds() {
     local processor check
     needs python3
     check "what a Mac runs, on this system" "$tests/on_a_mac.sh" $quick
@@ -176,21 +176,22 @@ test_macos() {
         skip "the library for macOS" "no clang, ld64.lld, llvm-nm or llvm-objdump"
         return
     fi
-    write_sdk
+    write_stand_in_sdk
     for processor in arm64 x86_64; do
-        write_compiler $processor
-        check "install.sh for macOS on $processor" installs $processor
+        write_macos_compiler_command $processor
+        check "install.sh for macOS on $processor" installs_for_macos $processor
         check=check_huge # of the programs one, whose C is the same
         [ $processor != arm64 ] || check=check
-        $check "b2 for macOS on $processor" builds_program $processor b2
-        $check "b2sum for macOS on $processor, and the functions of C that it calls" calls_in_program $processor
+        $check "b2 for macOS on $processor" program_links_for_macos $processor b2
+        $check "b2sum for macOS on $processor, and the functions of C that it calls" \
+            program_calls_c_and_proved_functions $processor
     done
     needs cmake
     [ -n "$lipo" ] || missing="no llvm-lipo"
-    check "an object for both processors, and a library by CMake" makes_universal
+    check "an object for both processors, and a library by CMake" cmake_builds_universal_library
     needs qemu-aarch64 python3
     has_compiler aarch64-linux-gnu-gcc || missing="no aarch64-linux-gnu-gcc with a C library"
-    check "apple_arguments.c by the convention of macOS on ARM" apple_arguments_run
+    check "apple_arguments.c by the convention of macOS on ARM" apple_calling_convention_works
 }
 
-part test_macos
+run_part_of_tests test_macos_builds

@@ -27,7 +27,7 @@ static void check_refused_and_unchanged(state_t state) {
     const state_t before = state;
     memset(out, 0xaa, sizeof out);
     memset(blank, 0xaa, sizeof blank);
-    CHECK(!room_in(&state) && !BLAKE(count)(&state));
+    CHECK(!output_bytes_left(&state) && !BLAKE(count)(&state));
     CHECK(BLAKE(update)(&state, bytes, 5) == -1 && BLAKE(update)(&state, bytes, 0) == -1);
     CHECK(write_output(&state, out, MAX) == -1 && write_output(&state, out, 1) == -1);
     CHECK(write_output(&state, out, 0) == -1);
@@ -61,12 +61,12 @@ static void check_refused_and_unchanged(state_t state) {
     } while (0)
 
 /* A state takes so many bytes more and no other, and a refused update changes nothing. */
-static void check_room(state_t state, size_t room) {
+static void check_absorbs_at_most(state_t state, size_t room) {
     const state_t before = state;
     CHECK(BLAKE(update)(&state, bytes, room + 1) == -1 && SAME(state, before));
     CHECK(BLAKE(update)(&state, bytes, ~(size_t)0) == -1 && SAME(state, before));
     if (room > sizeof bytes) return;
-    CHECK(BLAKE(update)(&state, bytes, room) == 0 && room_in(&state));
+    CHECK(BLAKE(update)(&state, bytes, room) == 0 && output_bytes_left(&state));
     CHECK(BLAKE(update)(&state, bytes, 1) == -1 && BLAKE(update)(&state, bytes, 0) == 0);
 }
 
@@ -76,7 +76,7 @@ static void check_room(state_t state, size_t room) {
 #if defined(TEST_T)
 /* ---- trees */
 
-static state_t made_state(void) {
+static state_t valid_state(void) {
     state_t made;
     CHECK(vulfsjor_tree_init(&made, MAX, bytes + 1, 3, bytes, 4, 7) == 0);
     CHECK(!memcmp(made.salt, bytes + 1, 3) && !memcmp(made.personal, bytes, 4));
@@ -85,7 +85,7 @@ static state_t made_state(void) {
     return made;
 }
 
-static void unready_states(state_t made) {
+static void check_unready_states(state_t made) {
     UNREADY(SET(state.leaf.output_size, MAX - 1));
     UNREADY(SET(state.leaf.pending_length, BLOCK + 1));
     UNREADY(SET(state.leaf.pending_length, 8));
@@ -105,7 +105,7 @@ static void unready_states(state_t made) {
 }
 
 /* A state of leaves of `leaf` bytes, of which `closed` are closed. */
-static state_t with_leaves(uint32_t leaf, uint64_t closed) {
+static state_t tree_with_closed_leaves(uint32_t leaf, uint64_t closed) {
     state_t state;
     CHECK(vulfsjor_tree_init(&state, MAX, bytes, 3, bytes, 4, leaf) == 0);
     SET(state.closed, closed);
@@ -114,26 +114,26 @@ static state_t with_leaves(uint32_t leaf, uint64_t closed) {
 }
 
 /* The count may not reach 2^58. */
-static void long_counts(void) {
+static void check_counts_near_limit(void) {
     static const uint32_t leaves[] = {1, 4, 1000};
     for (size_t i = 0; i < 3; i++) {
         const uint64_t end_at = (uint64_t)1 << 58, closed = (end_at - 1) / leaves[i] - 1;
-        state_t state = with_leaves(leaves[i], closed), before = state;
+        state_t state = tree_with_closed_leaves(leaves[i], closed), before = state;
         const size_t room = (size_t)(end_at - 1 - leaves[i] * closed);
         CHECK(vulfsjor_tree_count(&state) == leaves[i] * closed);
         for (size_t more = 2; more <= 5; more++)
             CHECK(vulfsjor_tree_update(&state, bytes, room + more) == -1 && SAME(state, before));
-        check_room(state, room);
+        check_absorbs_at_most(state, room);
         CHECK_64(vulfsjor_tree_update(&state, bytes, TWO_TO(63)) == -1 && SAME(state, before));
         CHECK(vulfsjor_tree_update_leaves(&state, bytes, 64, bytes, room) == -1 && SAME(state, before));
         CHECK(vulfsjor_tree_update(&state, bytes, room) == 0 && vulfsjor_tree_count(&state) == end_at - 1);
         CHECK(vulfsjor_tree_final(&state, bytes + 1000, MAX) == 0);
     }
-    state_t state = with_leaves(1000, PAST_32 + 7);
+    state_t state = tree_with_closed_leaves(1000, PAST_32 + 7);
     CHECK(vulfsjor_tree_update(&state, bytes, 1001) == 0 && vulfsjor_tree_count(&state) == 1000 * (PAST_32 + 7) + 1001);
 }
 
-static void vary_state(state_t *state, int i) {
+static void set_plausible_field(state_t *state, int i) {
     const uint64_t pending = 64 * (uint64_t)(i % 3), closed = state->closed % (i % 5 ? 1000 : (uint64_t)1 << 58);
     SET(state->leaf.output_size, MAX);
     SET(state->root.output_size, state->root.output_size % (MAX + 2));
@@ -170,7 +170,7 @@ enum { LEAVES = 1, HELD = BLOCK, KEY_BLOCKS = BLOCK, SIZE = MAX };
 #define COUNTER counter
 #endif
 
-static state_t made_state(void) {
+static state_t valid_state(void) {
     state_t made;
     CHECK(BLAKE(init_key)(&made, SIZE, bytes, MAX) == 0 && BLAKE(update)(&made, bytes, 700) == 0);
     CHECK(CONSTANT(KEYBYTES) == MAX && CONSTANT(SALTBYTES) == SALT && CONSTANT(PERSONALBYTES) == SALT);
@@ -185,7 +185,7 @@ static state_t made_state(void) {
 #define WHOLE ((uint64_t)MAX << 32)
 
 /* An output that is not one, or was read further than it goes; a state that has been read from, whatever its mark. */
-static void unready_outputs(state_t made) {
+static void check_unready_outputs(state_t made) {
     state_t state = made;
     UNREADY(SET(state.root.output_size, MAX - 1));
     UNREADY(state.reader.xof_length = 0);
@@ -200,7 +200,7 @@ static void unready_outputs(state_t made) {
 }
 
 /* The end of an output whose length is not known. */
-static void end_of_output(void) {
+static void check_end_of_unknown_length_output(void) {
     state_t state, before;
     uint8_t out[3] = {1, 2, 3};
     CHECK(BLAKE(init)(&state, (size_t)UNKNOWN) == 0 && BLAKE(left)(&state) == WHOLE && !BLAKE(squeeze)(&state, out, 1));
@@ -212,7 +212,7 @@ static void end_of_output(void) {
 }
 #endif
 
-static void unready_states(state_t made) {
+static void check_unready_states(state_t made) {
     const uint64_t sizes[] = {0, MAX + 1, PAST(made.OWN(output_size)), MOST},
                    lengths[] = {HELD + 1, PAST(made.PENDING), MOST, HELD + 2},
                    starts[] = {KEY_BLOCKS + 1, PAST(made.OWN(start_length)), MOST, KEY_BLOCKS + 2};
@@ -223,13 +223,13 @@ static void unready_states(state_t made) {
     }
     UNREADY(SET(state.COUNTER, (MOST - GET(state.PENDING)) / LEAVES + 1));
 #ifdef TEST_X
-    unready_outputs(made);
+    check_unready_outputs(made);
 #endif
 }
 
 /* The count may not reach 2^64, that of a key's blocks included, and a refused update changes nothing. */
-static void long_counts(void) {
-    const state_t made = made_state();
+static void check_counts_near_limit(void) {
+    const state_t made = valid_state();
     const uint64_t held = GET(made.PENDING);
     state_t state = made, before;
     for (size_t room = 0; room <= sizeof bytes; room += room < 2 * BLOCK ? 1 : 13) {
@@ -237,7 +237,7 @@ static void long_counts(void) {
         state = made;
         SET(state.COUNTER, counter);
         CHECK(BLAKE(count)(&state) == MOST - left - KEY_BLOCKS);
-        check_room(state, (size_t)left);
+        check_absorbs_at_most(state, (size_t)left);
     }
     /* Lengths that would wrap round: no byte of them is read. */
     SET(state.COUNTER, ((uint64_t)1 << 63) / LEAVES);
@@ -253,11 +253,11 @@ static void long_counts(void) {
         CHECK(GET(state.COUNTER) >= (uint64_t)1 << bits);
     }
 #ifdef TEST_X
-    end_of_output();
+    check_end_of_unknown_length_output();
 #endif
 }
 
-static void vary_state(state_t *state, int i) {
+static void set_plausible_field(state_t *state, int i) {
     uint64_t counter = GET(state->COUNTER) / (2 * LEAVES);
     if (i % 4 == 1) counter = MOST / LEAVES - random_below(1 << 24) % (4 * BLOCK);
     SET(state->COUNTER, counter);
@@ -279,7 +279,7 @@ static void vary_state(state_t *state, int i) {
 
 /* A state that no call makes is saved as the one that calls do the same with: what follows the pending bytes, the key
  * and the number of a flag are no part of it. */
-static void saved_without_the_rest(void) {
+static void check_unused_bytes_are_not_saved(void) {
     for (size_t pending = 0; pending <= BLOCK; pending++) {
         state_t made, state, other;
         uint8_t one[SAVED], again[SAVED];
@@ -299,7 +299,7 @@ static void saved_without_the_rest(void) {
 }
 
 /* Each value of each byte that is checked. A state that is loaded is saved as the same bytes. */
-static void load_each_value(void) {
+static void check_load_of_each_byte_value(void) {
     for (int pending = 0; pending <= BLOCK; pending += BLOCK / 4) {
         state_t state;
         uint8_t saved[SAVED], again[SAVED];
@@ -328,7 +328,7 @@ static void load_each_value(void) {
     }
 }
 
-static void check_saved(void) {
+static void check_saved_states(void) {
     state_t state;
     uint8_t saved[SAVED + 1], out[SAVED];
     CHECK(SAVED == (MAX == 64 ? 275 : 147) && BLAKE(init)(&state, MAX) == 0 && BLAKE(save)(&state, saved) == 0);
@@ -342,8 +342,8 @@ static void check_saved(void) {
     }
     CHECK_64(LIBRARY(load)(&state, saved, SAVED + TWO_TO(32)) == -1);
     CHECK(BLAKE(save)(NULL, out) == -1 && BLAKE(init)(&state, MAX) == 0 && BLAKE(save)(&state, NULL) == -1);
-    saved_without_the_rest();
-    load_each_value();
+    check_unused_bytes_are_not_saved();
+    check_load_of_each_byte_value();
 }
 #endif
 
@@ -351,14 +351,14 @@ static void check_saved(void) {
 static state_t random_state(int i) {
     state_t state;
     for (size_t j = 0; j < sizeof state; j++) ((uint8_t *)&state)[j] = (uint8_t)random_below(1 << 24);
-    if (i % 4) vary_state(&state, i);
+    if (i % 4) set_plausible_field(&state, i);
     return state;
 }
 
 #ifdef TEST_NODES
 /* As many of them that are ready as go on in lanes, and one more, or more than two groups of the file in C, absorb in
  * one call what each of them absorbs alone; and nothing if one is not ready, or counts 2^64 - 1 bytes. */
-static void several_random_states(void) {
+static void check_several_random_states(void) {
     enum { STATES = 71 };
     for (int turn = 0; turn < 300; turn++) {
         const size_t count = turn % 10 ? LANES + 1 : STATES, place = (size_t)turn % count;
@@ -387,13 +387,14 @@ static void several_random_states(void) {
 }
 #endif
 
-static void random_states(void) {
+static void check_random_states(void) {
     uint8_t out[6 * MAX];
     int taken = 0;
     for (int i = 0; i < 4000; i++) {
         state_t state = random_state(i);
         int updated = BLAKE(update)(&state, bytes, (size_t)i % (4 * BLOCK)), other = 0;
-        size_t room = room_in(&state) < sizeof out ? (size_t)room_in(&state) : random_below(1 << 24) % sizeof out;
+        size_t room = output_bytes_left(&state) < sizeof out ? (size_t)output_bytes_left(&state)
+                                                             : random_below(1 << 24) % sizeof out;
 #ifdef TEST_NODES
         uint8_t saved[SAVED];
         for (size_t j = 0; j < SAVED; j++) saved[j] = (uint8_t)random_below(1 << 24);
@@ -418,7 +419,7 @@ static void random_states(void) {
 #define UNTOUCHED(call) CHECK((call) == -1 && SAME(out, blank))
 
 /* Messages that end at byte 2^58 or after it. */
-static void long_messages(void) {
+static void check_leaves_near_2_to_58(void) {
     uint8_t out[MAX], blank[MAX];
     state_t state;
     memset(out, 0xaa, sizeof out);
@@ -438,18 +439,18 @@ static void long_messages(void) {
 
 int main(void) {
     for (size_t i = 0; i < sizeof bytes; i++) bytes[i] = (uint8_t)(i % 251);
-    const state_t made = made_state();
+    const state_t made = valid_state();
     UNREADY(memset(&state, 0, sizeof state));
     UNREADY(memset(&state, 0xff, sizeof state));
-    unready_states(made);
-    long_counts();
-    random_states();
+    check_unready_states(made);
+    check_counts_near_limit();
+    check_random_states();
 #ifdef TEST_NODES
-    several_random_states();
-    check_saved();
+    check_several_random_states();
+    check_saved_states();
 #endif
 #ifdef TEST_T
-    if (sizeof(size_t) == 8) long_messages();
+    if (sizeof(size_t) == 8) check_leaves_near_2_to_58();
 #endif
     fprintf(stderr, "%s: %d checks, %d failures\n", HASH, checks, fails);
     return fails != 0;

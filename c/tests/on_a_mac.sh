@@ -10,7 +10,7 @@ cc=${CC:-cc} level=${1:--O2}
 trap 'rm -rf "$work"' EXIT
 failed=0
 
-try() {
+run_and_print_result() {
     name=$1
     shift
     if "$@" >"$work/log" 2>&1; then
@@ -20,18 +20,18 @@ try() {
         echo "not ok - $name" && tail -n 20 "$work/log"
     fi
 }
-compile() { $cc -std=c99 "$level" $define -Ic/include "c/tests/$1.c" c/choose.c "$work/library.o" -o "$work/$1"; }
-threads() {
+compile_test() { $cc -std=c99 "$level" $define -Ic/include "c/tests/$1.c" c/choose.c "$work/library.o" -o "$work/$1"; }
+threads_program_works() {
     processors=$(nproc 2>/dev/null || getconf _NPROCESSORS_ONLN)
     $cc -std=gnu99 "$level" -Ic/include c/tests/system.c c/threads.c c/choose.c "$work/library.o" -pthread \
         -o "$work/system" && (cd "$work" && ./system "$processors")
 }
-digest() {
+b2_digest_matches_hashlib() {
     [ "$(printf abc | ./b2 sum b512)" = "$(printf abc | python3 -c 'import hashlib, sys
 print(hashlib.blake2b(sys.stdin.buffer.read()).hexdigest())')" ]
 }
 
-sums() {
+b2sum_digests_match_hashlib() {
     b2sum=$PWD/b2sum
     cd "$work" && mkdir -p names && printf abc >'names/café' && head -c 3000000 /dev/zero >zeros &&
         python3 -c 'import hashlib, sys
@@ -50,19 +50,19 @@ for name in sys.argv[1:]:
 uname -srm
 [ "$(uname -s)" != Darwin ] || sw_vers
 $cc --version
-try "the library is assembled" $cc -c dist/vulfsjor.S -o "$work/library.o"
+run_and_print_result "the library is assembled" $cc -c dist/vulfsjor.S -o "$work/library.o"
 cases=${VULFSJOR_CONFORMANCE:-$work}
 [ "$cases" != "$work" ] ||
-    try "the conformance cases are written" python3 tests/conformance/write.py "$work" blake2b blake2s
+    run_and_print_result "the conformance cases are written" python3 tests/conformance/write.py "$work" blake2b blake2s
 for family in b s; do
     define=
     [ $family = b ] || define=-DTEST_S
-    try "conformance.c is compiled, blake2$family" compile conformance
-    try "conformance.c, blake2$family" "$work/conformance" "$cases/blake2$family.txt"
-    try "edge_cases.c is compiled, blake2$family" compile edge_cases
-    try "edge_cases.c, blake2$family" "$work/edge_cases"
+    run_and_print_result "conformance.c is compiled, blake2$family" compile_test conformance
+    run_and_print_result "conformance.c, blake2$family" "$work/conformance" "$cases/blake2$family.txt"
+    run_and_print_result "edge_cases.c is compiled, blake2$family" compile_test edge_cases
+    run_and_print_result "edge_cases.c, blake2$family" "$work/edge_cases"
 done
-try "trees by threads" threads
-try "b2 sum" digest
-try "b2sum" sums
+run_and_print_result "trees by threads" threads_program_works
+run_and_print_result "b2 sum" b2_digest_matches_hashlib
+run_and_print_result "b2sum" b2sum_digests_match_hashlib
 exit $failed

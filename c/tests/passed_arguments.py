@@ -49,7 +49,7 @@ static void show(uint64_t argument) {
 """
 
 
-def prototypes(include, header="vulfsjor.h"):
+def header_prototypes(include, header="vulfsjor.h"):
     """The type and the parameters, each a type and a name, of each function of a header, by its name."""
     with open(f"{include}/{header}", encoding="utf-8") as file:
         text = re.sub(r"/\*.*?\*/|^#.*?$", "", file.read(), flags=re.S | re.M)
@@ -62,11 +62,11 @@ def prototypes(include, header="vulfsjor.h"):
     return found
 
 
-class Calls:
+class GeneratedCalls:
     """The calls in C, and the lines that they print."""
 
     def __init__(self, include):
-        self.all = {name: given for name, given in prototypes(include).items()
+        self.all = {name: given for name, given in header_prototypes(include).items()
                     if not re.search(f"_({NO_CALLS})$|^vulfsjor_leaf$", name)}
         self.library = {name: given for name, given in self.all.items() if "_ffi_" in name}
         self.code, self.lines = [], []
@@ -74,18 +74,18 @@ class Calls:
             if "param_refused" in name or "tree_refused" in name or "version" in name:
                 continue  # edge_cases.c and conformance.c have these
             if name.endswith("_refused"):
-                self.refused(name, len(parameters))
+                self.add_refusing_calls(name, len(parameters))
                 continue
             for is_least in (False, True) if name not in self.library else (False,):
-                self.passes(name, parameters, is_least)
+                self.add_passing_calls(name, parameters, is_least)
             if name.endswith("_load") and name not in self.library:  # whose bytes no state is saved as
-                self.call(f"{name}((void *)state, NULL, NUMBER(113))", "int", [], returned=2**64 - 1)
+                self.add_call(f"{name}((void *)state, NULL, NUMBER(113))", "int", [], returned=2**64 - 1)
             if ("uint64_t ", "leaf_length") in parameters:
-                self.passes(name, parameters, False, too_long=True)
+                self.add_passing_calls(name, parameters, False, too_long=True)
         for family, most in ("b", 64), ("s", 32), ("bp", 64), ("sp", 32):
-            self.libb2(f"blake2{family}", most)
+            self.add_libb2_calls(f"blake2{family}", most)
 
-    def call(self, call, kind, wanted, answers=ANSWERS, returned=None):
+    def add_call(self, call, kind, wanted, answers=ANSWERS, returned=None):
         """Adds a call, which makes these calls of the library and returns what the library answers."""
         for answer in answers:
             self.code.append(f"answer = {answer}u; " + (f"RETURNS({kind}, {call});" if kind != "void" else
@@ -96,7 +96,7 @@ class Calls:
                 value |= 2**64 - 2**32
             self.lines += wanted + [["=", f"{value:x}"] if kind != "void" else ["="]]
 
-    def passes(self, name, parameters, is_least, too_long=False):
+    def add_passing_calls(self, name, parameters, is_least, too_long=False):
         """A call that passes its arguments to the function of its name: other addresses and long lengths; or null and
         0, wherever that is allowed. Leaves that are too long for the library have 0 bytes there."""
         values, arguments = {}, []
@@ -130,10 +130,10 @@ class Calls:
             values["block_length"] = "20" if "blake2s" in name else "40"
         if name.endswith("_save") and name != of:  # the length of its array
             values["out_length"] = f"{147 if 'blake2s' in name else 275:x}"
-        self.call(f"{name}({', '.join(arguments)})", self.all[name][0],
+        self.add_call(f"{name}({', '.join(arguments)})", self.all[name][0],
                   [[of] + [values.get(word, ANY if kind.endswith("*") else "0") for kind, word in self.library[of][1]]])
 
-    def refused(self, name, count):
+    def add_refusing_calls(self, name, count):
         """What _refused tries, after which it wipes the state with the key. It ends at the first refusal."""
         init, wipe = (name.replace("vulfsjor_", "vulfsjor_ffi_").replace("refused", end)
                       for end in ("init_salt_personal", "wipe"))
@@ -142,10 +142,10 @@ class Calls:
         tries = [first, [init, ANY, "1", "200", "200000001", ANY, "0", ANY, "0"], [wipe, ANY],
                  [init, ANY, "1", *none, "300", "300000001", *none], [init, ANY, "1", *none, *none, "400", "400000001"]]
         call = ", ".join(text.format(2 + (i - 1) // 2) for i, text in enumerate(arguments)) + ", NULL" * (count - 7)
-        self.call(f"{name}({call})", "int", tries, (0,))
-        self.call(f"{name}({call})", "int", [first], (1,), 2)
+        self.add_call(f"{name}({call})", "int", tries, (0,))
+        self.add_call(f"{name}({call})", "int", [first], (1,), 2)
 
-    def libb2(self, name, most):
+    def add_libb2_calls(self, name, most):
         """The calls by a name of libb2, which work on its state, and of which final sets the flag that the state has;
         and too long outputs."""
         of, size = f"vulfsjor_ffi_{name}_", f"{most:x}"
@@ -158,21 +158,21 @@ class Calls:
                 ("update", text, ["update", ANY, *pair]),
                 ("final", f"ADDRESS(300), {name}_run.outlen = {most}", ["final", ANY, "300", size])):
             if call != "init_param" or name[-1] != "p":
-                self.call(f"{name}_{call}(&{name}_run, {arguments})", "int", [[of + passed[0], *passed[1:]]])
+                self.add_call(f"{name}_{call}(&{name}_run, {arguments})", "int", [[of + passed[0], *passed[1:]]])
         if name[-1] != "p":
             self.code.append(f"{name}_run.outlen = {most}, {name}_run.last_node = 2;")
-            self.call(f"{name}_final(&{name}_run, ADDRESS(300), {most})", "int",
+            self.add_call(f"{name}_final(&{name}_run, ADDRESS(300), {most})", "int",
                       [[of + "set_last_node", ANY, "1"], [of + "final", ANY, "300", size]], (0,))
         self.code.append(f"{name}_run.outlen = {most};")
-        self.call(f"{name}_final(&{name}_run, ADDRESS(300), NUMBER(1000000{size}))", "int", [], returned=2**64 - 1)
+        self.add_call(f"{name}_final(&{name}_run, ADDRESS(300), NUMBER(1000000{size}))", "int", [], returned=2**64 - 1)
         call = "((void *)state, ADDRESS(200), ADDRESS(300), NUMBER({}), NUMBER(500000005), NUMBER(600000006))"
-        self.call(name + call.format(f"1000000{size}"), "int", [], returned=2**64 - 1)
+        self.add_call(name + call.format(f"1000000{size}"), "int", [], returned=2**64 - 1)
         for function in [name, "blake2"] if name == "blake2b" else [name]:
             wanted = [[of[:-1], ANY, size, "200", "500000005", "300", "600000006"]]
-            self.call(function + call.format(size), "int", wanted, (0,))
-            self.call(function + call.format(size), "int", wanted, (1,), 2**64 - 1)
+            self.add_call(function + call.format(size), "int", wanted, (0,))
+            self.add_call(function + call.format(size), "int", wanted, (1,), 2**64 - 1)
 
-    def program(self):
+    def c_program_lines(self):
         """The program in C."""
         yield PROGRAM
         for name, (kind, parameters) in self.library.items():
@@ -184,9 +184,9 @@ class Calls:
 
 
 def main():
-    calls = Calls(sys.argv[1])
+    calls = GeneratedCalls(sys.argv[1])
     if len(sys.argv) == 2:
-        print(*calls.program(), sep="\n")
+        print(*calls.c_program_lines(), sep="\n")
         return 0
     said = [line.split() for line in sys.stdin]
     wrong = [f"{' '.join(got)}\nbut not: {' '.join(wanted)}" for got, wanted in zip(said, calls.lines)

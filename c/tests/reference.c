@@ -49,14 +49,14 @@ static void check_null_pointers(void) {
 #endif
 
 /* A key of no bytes is no key in one call, wherever it is. */
-static void check_no_key(void) {
+static void check_key_of_no_bytes(void) {
     CHECK(ONE_CALL(wanted, LENGTH, "abc", 3, NULL, 0) == 0);
     CHECK(PLAIN_ONE_CALL(out, LENGTH, "abc", 3, "k", 0) == 0 && !memcmp(out, wanted, LENGTH));
     CHECK(PLAIN_ONE_CALL(out, LENGTH, "abc", 3, NULL, 0) == 0 && !memcmp(out, wanted, LENGTH));
 }
 
 /* The output may overlap the input or the key. */
-static void check_overlaps(void) {
+static void check_overlapping_buffers(void) {
     uint8_t mixed[2000];
     CHECK(ONE_CALL(wanted, LENGTH, message, sizeof mixed, message + 40, MAX) == 0);
     for (size_t at = 0; at + LENGTH <= sizeof mixed; at += 113) {
@@ -68,7 +68,7 @@ static void check_overlaps(void) {
 }
 
 /* An output in two pieces, of which the second goes to a copy too. */
-static void check_in_pieces(void) {
+static void check_output_in_two_pieces(void) {
     for (size_t size = 1; size <= (LENGTH > MAX ? 3 * MAX : MAX); size++) {
         const size_t keys = size % 3 ? size % MAX + 1 : 0, length = 13 * size, first = random_below(length + 1);
         PLAIN(state) S, copy;
@@ -90,7 +90,7 @@ static void check_in_pieces(void) {
 
 #ifdef TEST_X
 /* The lengths of outputs. The last of the family is that of an unknown length: then final accepts each. */
-static void check_lengths(void) {
+static void check_output_lengths(void) {
     const size_t unknown = (size_t)CONSTANT(UNKNOWN_LENGTH);
     const size_t lengths[] = {1, 15, 3 * MAX, 300};
     PLAIN(state) S, before;
@@ -117,7 +117,7 @@ static void check_lengths(void) {
 }
 #else
 /* final writes to a longer output as many bytes as the digest has, and none to a shorter one. */
-static void check_lengths(void) {
+static void check_output_lengths(void) {
     PLAIN(state) S, before;
     memset(&S, 0x5a, sizeof S);
     CHECK(PLAIN(init)(&S, 0) == -1 && IS_WIPED(S) && PLAIN(init)(&S, MAX + 1) == -1);
@@ -143,7 +143,7 @@ static void check_lengths(void) {
 
 #if !defined(TEST_P) && !defined(TEST_X)
 /* The fields of a block, of which vulfsjor.h has node_offset and xof_length as one. */
-static void check_fields(const PLAIN(param) *P, const uint8_t *bytes) {
+static void check_block_fields(const PLAIN(param) *P, const uint8_t *bytes) {
     CHECK(P->digest_length == bytes[0] && P->key_length == bytes[1] && P->fanout == bytes[2] && P->depth == bytes[3]);
     CHECK(!memcmp(&P->leaf_length, bytes + 4, 4) && !memcmp(&P->node_offset, bytes + 8, 4));
     CHECK(!memcmp(&P->xof_length, bytes + 12, sizeof P->xof_length) && P->node_depth == bytes[MAX == 64 ? 16 : 14]);
@@ -152,7 +152,7 @@ static void check_fields(const PLAIN(param) *P, const uint8_t *bytes) {
 }
 
 /* A state from a block has the digests of one from the same bytes by vulfsjor.h. */
-static void check_blocks(void) {
+static void check_parameter_blocks(void) {
     PLAIN(state) S;
     state_t ours;
     PLAIN(param) P;
@@ -161,7 +161,7 @@ static void check_blocks(void) {
     for (size_t i = 0; i < sizeof P; i++) bytes[i] = (uint8_t)(i * 5 + 1);
     bytes[0] = 20, bytes[1] = 9;
     memcpy(&P, bytes, sizeof P);
-    check_fields(&P, bytes);
+    check_block_fields(&P, bytes);
     memset(&S, 0x5a, sizeof S);
     memset(&ours, 0, sizeof ours);
     CHECK(PLAIN(init_param)(&S, &P) == 0 && LIBRARY(init_param)(&ours, bytes, sizeof bytes) == 0);
@@ -178,7 +178,7 @@ static void check_blocks(void) {
 }
 
 /* The last-node flag, which programs set in the state. */
-static void check_last_node(void) {
+static void check_last_node_flag(void) {
     PLAIN(state) S;
     state_t ours;
     CHECK(PLAIN(init)(&S, MAX) == 0 && BLAKE(init)(&ours, MAX) == 0 && BLAKE(set_last_node)(&ours, 1) == 0);
@@ -190,7 +190,7 @@ static void check_last_node(void) {
 #endif
 
 /* The constants, and blake2, which is blake2b and which not every copy has. */
-static void check_header(void) {
+static void check_header_constants(void) {
     CHECK(BLAKE2B_BLOCKBYTES == 128 && BLAKE2B_OUTBYTES == 64 && BLAKE2B_KEYBYTES == 64 && BLAKE2B_SALTBYTES == 16);
     CHECK(BLAKE2S_BLOCKBYTES == 64 && BLAKE2S_OUTBYTES == 32 && BLAKE2S_KEYBYTES == 32 && BLAKE2S_SALTBYTES == 8);
     CHECK(BLAKE2B_PERSONALBYTES == 16 && BLAKE2S_PERSONALBYTES == 8);
@@ -207,15 +207,15 @@ int main(void) {
 #ifdef VULFSJOR_REFERENCE_BLAKE2_H
     check_null_pointers();
 #endif
-    check_no_key();
-    check_overlaps();
-    check_in_pieces();
-    check_lengths();
+    check_key_of_no_bytes();
+    check_overlapping_buffers();
+    check_output_in_two_pieces();
+    check_output_lengths();
 #if !defined(TEST_P) && !defined(TEST_X)
-    check_blocks();
-    check_last_node();
+    check_parameter_blocks();
+    check_last_node_flag();
 #endif
-    check_header();
+    check_header_constants();
     printf("%d checks, %d failures\n", checks, fails);
     return fails != 0;
 }

@@ -4,13 +4,14 @@ source "$(dirname "$(readlink -f "$0")")/common.sh"
 source "$top/tests/sources.sh"
 
 # reference.c with these words: FAMILY WORDS..
-names_of_reference() {
-    cc -std=c99 -g $quick "${warnings[@]}" $(family_words "$1") -I"$include" "${@:2}" "$tests/reference.c" "$archive" \
+reference_names_conform() {
+    cc -std=c99 -g $quick "${warnings[@]}" $(family_macro_words "$1") -I"$include" "${@:2}" "$tests/reference.c" \
+        "$archive" \
         -o "$work/reference" && "$work/reference"
 }
 
 # A program in C++ that has the address of each function.
-cpp_links() {
+cpp_program_links_reference_names() {
     local compiler
     { echo '#include <blake2.h>' && echo 'typedef void function();' && echo 'function *volatile all[] = {' &&
         printf '    reinterpret_cast<function *>(%s),\n' blake2{b,s,bp,sp,xb,xs}{,_init,_init_key,_update,_final} \
@@ -23,7 +24,7 @@ cpp_links() {
 }
 
 # A program after which its own copy of the header is empty, as by -include.
-copy_is_empty() {
+own_header_copy_becomes_empty() {
     printf '%s\n' '#ifndef BLAKE2_H' '#error "it is not"' '#endif' >"$work/blake2.h"
     printf '%s\n' '#include "blake2.h"' 'int main(void) { unsigned char out[64];' \
         'return blake2b(out, sizeof out, "abc", 3, NULL, 0) || out[0] != 0xba; }' >"$work/copied.c"
@@ -31,7 +32,7 @@ copy_is_empty() {
 }
 
 # Calls in libb2's order do not compile with this header, nor those in this order with libb2's: WORDS FOR THE COMPILER..
-other_order_is_refused() {
+other_argument_order_is_refused() {
     local folder order
     declare -A calls=([$reference]='blake2b(out, 64, "abc", 3, NULL, 0)' [$libb2]='blake2b(out, "abc", NULL, 64, 3, 0)')
     for folder in "$reference" "$libb2"; do
@@ -45,14 +46,14 @@ other_order_is_refused() {
 }
 
 # The reference code's own self-test, of a copy that has it, over the header here. The known answers are libb2's.
-self_test() {
+reference_self_test_passes() {
     sed -n '/^#if defined(BLAKE2B_SELFTEST)/,$p' "$fetched/btrfs-progs/crypto/blake2b-ref.c" >"$work/self.c" &&
         cc -DBLAKE2B_SELFTEST -DBLAKE2_KAT_LENGTH=KAT_LENGTH -include stdio.h -include "$reference/blake2.h" \
             -I"$fetched/libb2/src" "$work/self.c" "$archive" -o "$work/self" && [ "$("$work/self")" = ok ]
 }
 
 # reference.c over the reference code's own BLAKE2b, in that copy.
-said_of_reference() {
+reference_code_behaves_as_documented() {
     local copy=$fetched/btrfs-progs
     mkdir -p "$work/own" && cp "$copy"/crypto/blake2{,-impl}.h "$work/own" &&
         cc -std=gnu99 -w -I"$work/own" -I"$include" -I"$copy" "$tests/reference.c" \
@@ -60,22 +61,22 @@ said_of_reference() {
         "$work/reference"
 }
 
-test_reference() {
+test_reference_names() {
     local family
     for family in b s bp sp xb xs; do
-        check "the reference code's names, blake2$family" names_of_reference $family -I"$reference"
+        check "the reference code's names, blake2$family" reference_names_conform $family -I"$reference"
     done
-    check "a copy of the header is empty after it" copy_is_empty
-    check "the other order of arguments is refused in C" other_order_is_refused cc -Werror=int-conversion
+    check "a copy of the header is empty after it" own_header_copy_becomes_empty
+    check "the other order of arguments is refused in C" other_argument_order_is_refused cc -Werror=int-conversion
     needs c++
-    check "the reference code's names from C++" cpp_links
-    check "the other order of arguments is refused in C++" other_order_is_refused c++ -x c++
+    check "the reference code's names from C++" cpp_program_links_reference_names
+    check "the other order of arguments is refused in C++" other_argument_order_is_refused c++ -x c++
     needs clang
     check "clang warns of nothing" clang -std=c99 -Weverything -Wno-reserved-id-macro -Wno-reserved-identifier -Werror \
         -I"$reference" -fsyntax-only -include blake2.h "$empty"
     needs_sources btrfs-progs libb2
-    check "the reference code's self-test over the header" self_test
-    check "what is said of the reference code itself" said_of_reference
+    check "the reference code's self-test over the header" reference_self_test_passes
+    check "what is said of the reference code itself" reference_code_behaves_as_documented
 }
 
-part test_reference
+run_part_of_tests test_reference_names

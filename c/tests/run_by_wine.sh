@@ -18,7 +18,7 @@ cat >"$input" 2>/dev/null || input= # a folder, which no program can read
 fixed="setarch --addr-no-randomize"
 $fixed true 2>/dev/null || fixed=
 
-by_wine() { $fixed "$WINE" "$@" >"$folder/output" 2>"$folder/errors"; }
+run_with_wine() { $fixed "$WINE" "$@" >"$folder/output" 2>"$folder/errors"; }
 
 # Whether standard error has lines of wine's own, and no other.
 own='^(wine client error:|wineserver: |err:virtual:virtual_alloc_first_teb )'
@@ -27,7 +27,7 @@ wine_failed() {
 }
 
 for _ in 1 2 3; do
-    if [ -n "$input" ]; then by_wine "$@" <"$input"; else by_wine "$@"; fi
+    if [ -n "$input" ]; then run_with_wine "$@" <"$input"; else run_with_wine "$@"; fi
     status=$?
     [ $status -ne 0 ] && wine_failed || break
     cat "$folder/errors" >>"$WINE_LOG"

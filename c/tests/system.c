@@ -23,14 +23,14 @@ enum { BYTES = (3 << 20) + 17, LEAF = 4096, FROM = 1000 };
 static const char name[] = "caf\xc3\xa9 \xf0\x9f\x98\x80";
 
 /* With several numbers of threads. */
-static void try_threads(size_t length) {
+static void check_numbers_of_threads(size_t length) {
     static const unsigned threads[] = {0, 1, 2, 7};
 
     for (size_t i = 0; i < COUNT_OF(threads); i++)
-        compare_roots(length, length < FROM ? 0 : FROM, 64, LEAF, threads[i]);
+        check_roots_of_message_and_file(length, length < FROM ? 0 : FROM, 64, LEAF, threads[i]);
 }
 
-static void try_errors(void) {
+static void check_windows_errors(void) {
     static const struct {
         const char *path;
         uint32_t leaf;
@@ -49,7 +49,7 @@ static void try_errors(void) {
 
 #ifdef _WIN32
 /* Whether the path of Windows for one in UTF-8 begins so, and is longer by this many letters. */
-static int is_path(const char *path, const wchar_t *start, size_t more) {
+static int wide_path_begins_with(const char *path, const wchar_t *start, size_t more) {
     static wchar_t room[2 * LONGEST_PATH];
     const wchar_t *const it = wide_path(path, room);
 
@@ -57,30 +57,30 @@ static int is_path(const char *path, const wchar_t *start, size_t more) {
 }
 
 /* wine opens a long path without its prefix too. */
-static void try_paths(void) {
+static void check_wide_paths(void) {
     static wchar_t room[2 * LONGEST_PATH];
     static char longest[LONGEST_PATH + 1];
     char path[400] = "C:/";
 
     CHECK(!wcscmp(wide_path("a/caf\xc3\xa9\\b", room), L"a\\caf\u00e9\\b"));
     memset(path + 3, 'n', 300);
-    CHECK(is_path(path, L"\\\\?\\C:\\n", 4));
+    CHECK(wide_path_begins_with(path, L"\\\\?\\C:\\n", 4));
     memcpy(path, "//host/share/", 13);
-    CHECK(is_path(path, L"\\\\?\\UNC\\host\\share\\n", 6));
+    CHECK(wide_path_begins_with(path, L"\\\\?\\UNC\\host\\share\\n", 6));
     memcpy(path, "//?/C:/nnnnnn", 13);
-    CHECK(is_path(path, L"\\\\?\\C:\\n", 0));
+    CHECK(wide_path_begins_with(path, L"\\\\?\\C:\\n", 0));
     CHECK(!wide_path("\xff", room) && errno == ENOENT);
     memset(longest, 'n', LONGEST_PATH);
     CHECK(!wide_path(longest, room) && errno == ENAMETOOLONG);
-    CHECK(number_of(ERROR_ACCESS_DENIED) == EACCES && number_of(ERROR_LOCK_VIOLATION) == EACCES);
-    CHECK(number_of(ERROR_BAD_NETPATH) == ENOENT && number_of(ERROR_INVALID_HANDLE) == EBADF);
-    CHECK(number_of(ERROR_TOO_MANY_OPEN_FILES) == EMFILE && number_of(ERROR_OUTOFMEMORY) == ENOMEM);
-    CHECK(number_of(ERROR_FILENAME_EXCED_RANGE) == ENAMETOOLONG && number_of(ERROR_CRC) == EIO);
+    CHECK(errno_of_error(ERROR_ACCESS_DENIED) == EACCES && errno_of_error(ERROR_LOCK_VIOLATION) == EACCES);
+    CHECK(errno_of_error(ERROR_BAD_NETPATH) == ENOENT && errno_of_error(ERROR_INVALID_HANDLE) == EBADF);
+    CHECK(errno_of_error(ERROR_TOO_MANY_OPEN_FILES) == EMFILE && errno_of_error(ERROR_OUTOFMEMORY) == ENOMEM);
+    CHECK(errno_of_error(ERROR_FILENAME_EXCED_RANGE) == ENAMETOOLONG && errno_of_error(ERROR_CRC) == EIO);
 }
 
 /* A file that others have open for writing, what they may do with one that is open here, and one
  * that another has for itself. */
-static void try_sharing(void) {
+static void check_file_sharing(void) {
     static const wchar_t wide[] = L"caf\u00e9 \U0001f600";
     int writer = _wopen(wide, _O_WRONLY | _O_BINARY), file = open_path(name);
     HANDLE alone;
@@ -96,7 +96,7 @@ static void try_sharing(void) {
 
 /* Files that are open in text mode are read as they are: CR LF, and all after a byte 26. Also a pipe, which ends when its
  * writer closes it. */
-static void try_text_mode(void) {
+static void check_text_mode_is_ignored(void) {
     static const size_t lengths[] = {0, 1, 1000, (1 << 18) - 1, 1 << 18, 600000};
     int ends[2];
 
@@ -104,8 +104,8 @@ static void try_text_mode(void) {
     strcpy(path, "text");
     as_text = true;
     for (size_t i = 0; i < COUNT_OF(lengths); i++) {
-        write_file(lengths[i]);
-        try_threads(lengths[i]);
+        write_message_file(lengths[i]);
+        check_numbers_of_threads(lengths[i]);
     }
     CHECK(!unlink(path) && !_pipe(ends, 1 << 16, O_TEXT | O_NOINHERIT));
     CHECK(_setmode(ends[1], O_BINARY) >= 0 && write(ends[1], message, 1000) == 1000 && !close(ends[1]));
@@ -117,7 +117,7 @@ enum { IS_PASSED = 77 };
 
 /* Whether this process was passed a descriptor: the C library passes a number of them, a byte for each,
  * and their handles. */
-static bool is_passed(int file) {
+static bool was_descriptor_inherited(int file) {
     STARTUPINFOW info;
     int files = 0;
 
@@ -127,7 +127,7 @@ static bool is_passed(int file) {
 }
 
 /* Whether a child is passed a descriptor, which it says by its status. */
-static bool is_passed_on(int file) {
+static bool child_inherits_descriptor(int file) {
     static wchar_t path[LONGEST_PATH];
     wchar_t number[12];
 
@@ -136,29 +136,29 @@ static bool is_passed_on(int file) {
            _wspawnl(_P_WAIT, path, L"child", L"of", number, NULL) == IS_PASSED;
 }
 
-static thread_result THREAD_CALL end_at_once(void *given) {
+static thread_result THREAD_CALL return_at_once(void *given) {
     (void)given;
     return 0;
 }
 
 /* A child does not inherit the files that are opened here, neither as a handle nor as a descriptor, and
  * the handle of a thread is closed. */
-static void try_handles(void) {
+static void check_nothing_is_inherited(void) {
     const int file = open_path(name), inherited = _wopen(L"inherited", O_RDWR | O_CREAT | O_BINARY, 0600);
     DWORD flags;
     thread it;
 
     CHECK(GetHandleInformation((HANDLE)_get_osfhandle(file), &flags) && !(flags & HANDLE_FLAG_INHERIT));
-    CHECK(file >= 0 && !is_passed_on(file) && inherited >= 0 && is_passed_on(inherited));
+    CHECK(file >= 0 && !child_inherits_descriptor(file) && inherited >= 0 && child_inherits_descriptor(inherited));
     CHECK(!close(file) && !close(inherited) && !_wunlink(L"inherited"));
-    CHECK(start_threads(&it, 1, end_at_once, NULL) == 1);
+    CHECK(start_threads(&it, 1, return_at_once, NULL) == 1);
     CHECK(GetHandleInformation(it, &flags));
     join_thread(it);
     CHECK(!GetHandleInformation(it, &flags));
 }
 
 /* A byte past 4 GiB, which wine keeps in a file with a hole. */
-static void try_far(void) {
+static void check_read_past_4_gib(void) {
     const int64_t from = ((int64_t)1 << 32) + 5;
     const int file = open("far", O_RDWR | O_CREAT | O_TRUNC | O_BINARY, 0600);
     char byte = 0;
@@ -169,7 +169,7 @@ static void try_far(void) {
 }
 
 /* One of the processors, and all again. */
-static void try_affinity(void) {
+static void check_processor_affinity(void) {
     DWORD_PTR own, all;
 
     CHECK(GetProcessAffinityMask(GetCurrentProcess(), &own, &all));
@@ -181,27 +181,27 @@ static void try_affinity(void) {
 /* Threads that wait until all run at the same time. */
 enum { COUNT = 3 };
 static int running;
-static thread_result THREAD_CALL run_with_others(void *given) {
+static thread_result THREAD_CALL wait_for_other_threads(void *given) {
     __atomic_add_fetch((int *)given, 1, __ATOMIC_SEQ_CST);
     while (__atomic_load_n((int *)given, __ATOMIC_SEQ_CST) < COUNT) continue;
     return 0;
 }
 
-static void try_start(unsigned wanted_processors) {
+static void check_threads_run_together(unsigned wanted_processors) {
     thread threads[COUNT];
 
     CHECK(processor_count() == wanted_processors);
-    CHECK(start_threads(threads, COUNT, run_with_others, &running) == COUNT);
+    CHECK(start_threads(threads, COUNT, wait_for_other_threads, &running) == COUNT);
     for (int i = 0; i < COUNT; i++) join_thread(threads[i]);
     CHECK(running == COUNT);
 }
 
 int main(int count, char **words) {
 #ifdef _WIN32
-    if (count == 3) return is_passed(atoi(words[2])) ? IS_PASSED : 0;
+    if (count == 3) return was_descriptor_inherited(atoi(words[2])) ? IS_PASSED : 0;
 #endif
     make_message(BYTES + 1, ".");
-    write_file(BYTES);
+    write_message_file(BYTES);
 #ifdef _WIN32
     _wunlink(L"caf\u00e9 \U0001f600");
     CHECK(!_wrename(L"message", L"caf\u00e9 \U0001f600"));
@@ -209,17 +209,17 @@ int main(int count, char **words) {
     CHECK(!rename(path, name));
 #endif
     strcpy(path, name);
-    try_threads(BYTES);
-    try_errors();
+    check_numbers_of_threads(BYTES);
+    check_windows_errors();
 #ifdef _WIN32
-    try_paths();
-    try_sharing();
-    try_far();
-    try_affinity();
-    try_handles();
-    try_text_mode();
+    check_wide_paths();
+    check_file_sharing();
+    check_read_past_4_gib();
+    check_processor_affinity();
+    check_nothing_is_inherited();
+    check_text_mode_is_ignored();
 #endif
-    try_start(count == 2 ? (unsigned)atoi(words[1]) : 0);
+    check_threads_run_together(count == 2 ? (unsigned)atoi(words[1]) : 0);
     free(message);
     return fails != 0;
 }

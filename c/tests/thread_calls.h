@@ -26,7 +26,7 @@ static unsigned char *message, root[64], wanted[64], blank[64];
 static char path[PATH_MAX];
 
 /* Makes the file hold the beginning of the message. */
-static void write_file(size_t length) {
+static void write_message_file(size_t length) {
     int file = open(path, O_WRONLY | O_CREAT | O_TRUNC | OF_BYTES, 0600);
 
     if (file < 0 || write(file, message, length) != (ssize_t)length || close(file)) exit(3);
@@ -64,7 +64,7 @@ static int note_progress(void *ends, uint64_t count) {
 }
 
 /* The file, open from this byte on. */
-static int open_at(size_t from) {
+static int open_file_at(size_t from) {
     const int file = OPEN_FOR_READING(path);
 
     CHECK(file >= 0 && lseek(file, (off_t)from, SEEK_SET) == (off_t)from);
@@ -72,7 +72,7 @@ static int open_at(size_t from) {
 }
 
 /* Compares the root of the state, and of one that absorbs a byte more, with that of the first bytes of the message. */
-static void compare_state(size_t length, size_t outlen, uint32_t leaf) {
+static void check_root_of_state(size_t length, size_t outlen, uint32_t leaf) {
     CHECK(vulfsjor_tree_count(&state) == length);
     for (size_t more = 0; more < 2; more++) {
         vulfsjor_tree_state longer = state;
@@ -85,9 +85,10 @@ static void compare_state(size_t length, size_t outlen, uint32_t leaf) {
 /* Compares with vulfsjor_tree_root, for the message and the file that has it: roots of both, that of the file from a
  * byte on, and those of a state that has absorbed the bytes before, also by threads. Each call leaves the file at its
  * end, and an update that is ended leaves the state as it was. */
-static void compare_roots(size_t length, size_t head, size_t outlen, uint32_t leaf, unsigned threads) {
+static void check_roots_of_message_and_file(size_t length, size_t head, size_t outlen, uint32_t leaf,
+                                            unsigned threads) {
     const void *const in = length ? message : NULL;
-    const int file = open_at(head);
+    const int file = open_file_at(head);
     int ends = 1;
 
     for (int way = 0; way < 3; way++) {
@@ -104,7 +105,7 @@ static void compare_roots(size_t length, size_t head, size_t outlen, uint32_t le
     CHECK(!vulfsjor_tree_update_threads(&state, head ? message : NULL, head, threads));
     const vulfsjor_tree_state before = state;
     CHECK(!vulfsjor_tree_update_threads(&state, message + head, length - head, threads));
-    compare_state(length, outlen, leaf);
+    check_root_of_state(length, outlen, leaf);
     state = before, reported = 0;
     if (length > head) {
         CHECK(vulfsjor_tree_update_fd(&state, file, threads, note_progress, &ends) == -1 && errno == ECANCELED);
@@ -113,6 +114,6 @@ static void compare_roots(size_t length, size_t head, size_t outlen, uint32_t le
     ends = 0, reported = 0;
     CHECK(!vulfsjor_tree_update_fd(&state, file, threads, note_progress, &ends) && reported == length - head);
     CHECK(lseek(file, 0, SEEK_CUR) == (off_t)length && !close(file));
-    compare_state(length, outlen, leaf);
+    check_root_of_state(length, outlen, leaf);
 }
 #endif

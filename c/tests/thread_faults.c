@@ -37,7 +37,7 @@ enum { BYTES = 40 << 20, FEW = 100000 };
  * could. That is looked at in the caller's thread, wherever the system might cancel it. */
 static pthread_t caller;
 static int could_cancel;
-static void check_cancellation(void) {
+static void count_uncancelable_call(void) {
     int was;
 
     if (!pthread_equal(pthread_self(), caller)) return;
@@ -57,7 +57,7 @@ static int atomic_add(int *counter, int n) { return __atomic_add_fetch(counter, 
 static int atomic_value(int *counter) { return atomic_add(counter, 0); }
 
 /* Whether this call is the one that fails. */
-static int fails_now(const char *call) {
+static int is_planned_failure(const char *call) {
     if (strcmp(call, fault.call) || atomic_add(&fault.counted, 1) != fault.at) return 0;
     errno = fault.error;
     return 1;
@@ -81,10 +81,10 @@ static void wait_for(int *counter, int n) {
 }
 
 /* Whether this read is interrupted. */
-static int is_interrupted(int file) {
+static int is_read_interrupted(int file) {
     int call = atomic_add(&reads.calls, 1);
 
-    check_cancellation();
+    count_uncancelable_call();
     if (!(fcntl(file, F_GETFD) & FD_CLOEXEC)) reads.inherited = 1;
     if (call == reads.resized_at) {
         if (ftruncate(reads.file, reads.size)) abort();
@@ -109,58 +109,58 @@ static uint64_t hash_of_offset(uint64_t place) {
     return place ^ place >> 31;
 }
 
-static ssize_t note_read(size_t n, off_t from) {
+static ssize_t note_read_range(size_t n, off_t from) {
     __atomic_fetch_add(&noted, hash_of_offset((uint64_t)from + n) - hash_of_offset((uint64_t)from), __ATOMIC_SEQ_CST);
     return (ssize_t)n;
 }
 
-static ssize_t next_read(int file, void *to, size_t n) {
-    if (is_interrupted(file) || fails_now("read")) return -1;
+static ssize_t read_or_fail(int file, void *to, size_t n) {
+    if (is_read_interrupted(file) || is_planned_failure("read")) return -1;
     return read(file, to, reads.most && n > reads.most ? reads.most : n);
 }
 
-static ssize_t read_at_place(int file, void *to, size_t n, off_t from) {
-    if (only_noted) return note_read(n, from);
+static ssize_t pread_or_fail(int file, void *to, size_t n, off_t from) {
+    if (only_noted) return note_read_range(n, from);
     if (reads.least && !from) { /* no more reads come, since all other threads wait then */
         atomic_add(&reads.calls, 1);
         wait_for(&reads.calls, reads.least);
         wait_for(&reads.waiting, reads.others);
         CHECK(atomic_value(&reads.calls) == reads.least);
-        return fails_now("first pread") ? -1 : pread(file, to, n, from);
+        return is_planned_failure("first pread") ? -1 : pread(file, to, n, from);
     }
-    if (is_interrupted(file) || fails_now("pread")) return -1;
+    if (is_read_interrupted(file) || is_planned_failure("pread")) return -1;
     return pread(file, to, reads.most && n > reads.most ? reads.most : n, from);
 }
 
 /* The message in memory is noted as that of a file is. */
 static size_t length;
-static int note_input(const void *given, size_t n) {
+static int note_absorbed_input(const void *given, size_t n) {
     const unsigned char *input = given;
 
-    if (input >= message && input < message + length) note_read(n, input - message);
+    if (input >= message && input < message + length) note_read_range(n, input - message);
     return 0;
 }
 
 /* The largest block since this was set to 0. */
 static size_t largest;
 
-static void *new_block(size_t n) {
-    void *block = fails_now("malloc") ? NULL : malloc(n);
+static void *malloc_or_fail(size_t n) {
+    void *block = is_planned_failure("malloc") ? NULL : malloc(n);
 
-    check_cancellation();
+    count_uncancelable_call();
     if (n > __atomic_load_n(&largest, __ATOMIC_RELAXED))
         __atomic_store_n(&largest, n, __ATOMIC_RELAXED);
     if (block) atomic_add(&allocated, 1), memset(block, 0x5a, n); /* no digests of the call before */
     return block;
 }
 
-static void free_block(void *block) {
+static void counted_free(void *block) {
     if (block) atomic_add(&allocated, -1);
     free(block);
 }
 
 /* Whether two sets have the same signals. */
-static int are_same(const sigset_t *a, const sigset_t *b) {
+static int are_signal_sets_equal(const sigset_t *a, const sigset_t *b) {
     int number = 1;
 
     while (number <= SIGRTMAX && sigismember(a, number) == sigismember(b, number)) number++;
@@ -168,36 +168,36 @@ static int are_same(const sigset_t *a, const sigset_t *b) {
 }
 
 /* Whether this thread blocks all signals that can be blocked, except those of its own faults of memory. */
-static int blocks_signals(void) {
+static int thread_blocks_signals(void) {
     sigset_t wanted, mask;
 
     sigfillset(&wanted), sigdelset(&wanted, SIGBUS), sigdelset(&wanted, SIGSEGV);
     pthread_sigmask(SIG_SETMASK, &wanted, &mask);
     pthread_sigmask(SIG_SETMASK, &mask, &wanted); /* as the system has set it */
-    return are_same(&mask, &wanted);
+    return are_signal_sets_equal(&mask, &wanted);
 }
 
 /* What threads.c has each thread do, which is one function for all. */
 static void *(*hash)(void *);
 static int wrong_masks;
-static void *hash_and_end(void *given) {
-    if (!blocks_signals()) atomic_add(&wrong_masks, 1);
+static void *hash_and_count_end(void *given) {
+    if (!thread_blocks_signals()) atomic_add(&wrong_masks, 1);
     void *answer = hash(given);
 
     atomic_add(&reads.ended, 1);
     return answer;
 }
 
-static int start_thread(pthread_t *t, void *(*function)(void *), void *given) {
+static int start_counted_thread(pthread_t *t, void *(*function)(void *), void *given) {
     int error;
 
     if (!hash) hash = function; /* before the first thread, since all read it */
-    error = fails_now("pthread_create") ? fault.error : pthread_create(t, NULL, hash_and_end, given);
+    error = is_planned_failure("pthread_create") ? fault.error : pthread_create(t, NULL, hash_and_count_end, given);
     if (!error) atomic_add(&running, 1), atomic_add(&started, 1);
     return error;
 }
 
-static int end_thread(pthread_t t) {
+static int join_counted_thread(pthread_t t) {
     atomic_add(&reads.ended, 1); /* the caller's thread has no more to do */
     atomic_add(&running, -1);
     return pthread_join(t, NULL);
@@ -208,38 +208,38 @@ static int processors = INT_MIN;
 
 /* ---- threads.c over them. A name in parentheses is still the system's or the library's. */
 
-#define malloc(n) new_block(n)
-#define free(block) free_block(block)
-#define pthread_create(t, a, f, given) start_thread(t, f, given)
-#define pthread_join(t, x) end_thread(t)
+#define malloc(n) malloc_or_fail(n)
+#define free(block) counted_free(block)
+#define pthread_create(t, a, f, given) start_counted_thread(t, f, given)
+#define pthread_join(t, x) join_counted_thread(t)
 #define pthread_cond_wait(c, m) (atomic_add(&reads.waiting, 1), pthread_cond_wait(c, m))
 #define sched_getaffinity(p, n, set) (processors != INT_MIN ? -1 : sched_getaffinity(p, n, set))
 #define sysconf(name) (processors != INT_MIN ? processors : sysconf(name))
-#define openat(...) (check_cancellation(), openat(__VA_ARGS__))
-#define close(file) (check_cancellation(), close(file))
-#define pread(file, to, n, from) read_at_place(file, to, n, from)
-#define read(file, to, n) next_read(file, to, n)
-#define OR_FAILS(call, ...) (fails_now(#call) ? -1 : call(__VA_ARGS__))
+#define openat(...) (count_uncancelable_call(), openat(__VA_ARGS__))
+#define close(file) (count_uncancelable_call(), close(file))
+#define pread(file, to, n, from) pread_or_fail(file, to, n, from)
+#define read(file, to, n) read_or_fail(file, to, n)
+#define OR_FAILS(call, ...) (is_planned_failure(#call) ? -1 : call(__VA_ARGS__))
 #define lseek(...) OR_FAILS(lseek, __VA_ARGS__)
 #define fstat(...) OR_FAILS(fstat, __VA_ARGS__)
 #define vulfsjor_tree_plan(...) OR_FAILS(vulfsjor_tree_plan, __VA_ARGS__)
 #define vulfsjor_tree_plan_update(...) OR_FAILS(vulfsjor_tree_plan_update, __VA_ARGS__)
 #define vulfsjor_tree_part(...) OR_FAILS(vulfsjor_tree_part, __VA_ARGS__)
 /* Where files are only noted, nothing is hashed. */
-#define OR_NOTES(noted, call, ...) (fails_now(#call) ? -1 : only_noted ? (noted) : call(__VA_ARGS__))
+#define OR_NOTES(noted, call, ...) (is_planned_failure(#call) ? -1 : only_noted ? (noted) : call(__VA_ARGS__))
 #define vulfsjor_tree_root(...) OR_NOTES(0, vulfsjor_tree_root, __VA_ARGS__)
-#define vulfsjor_tree_update(t, i, in) OR_NOTES(note_input(i, in), vulfsjor_tree_update, t, i, in)
+#define vulfsjor_tree_update(t, i, in) OR_NOTES(note_absorbed_input(i, in), vulfsjor_tree_update, t, i, in)
 #define vulfsjor_tree_update_leaves(t, o, on, i, in) \
-    OR_NOTES(note_input(i, in), vulfsjor_tree_update_leaves, t, o, on, i, in)
+    OR_NOTES(note_absorbed_input(i, in), vulfsjor_tree_update_leaves, t, o, on, i, in)
 #define vulfsjor_tree_final(...) OR_NOTES(0, vulfsjor_tree_final, __VA_ARGS__)
 #define vulfsjor_tree_init_root(...) OR_NOTES(0, vulfsjor_tree_init_root, __VA_ARGS__)
 #define vulfsjor_tree_init_leaf(...) OR_NOTES(0, vulfsjor_tree_init_leaf, __VA_ARGS__)
-#define vulfsjor_blake2b_update(s, i, in) OR_NOTES(note_input(i, in), vulfsjor_blake2b_update, s, i, in)
+#define vulfsjor_blake2b_update(s, i, in) OR_NOTES(note_absorbed_input(i, in), vulfsjor_blake2b_update, s, i, in)
 #define vulfsjor_blake2b_final(...) OR_NOTES(0, vulfsjor_blake2b_final, __VA_ARGS__)
 #define vulfsjor_tree_leaves(o, on, f, e, i, in, ...) \
-    OR_NOTES(note_input(i, in), vulfsjor_tree_leaves, o, on, f, e, i, in, __VA_ARGS__)
+    OR_NOTES(note_absorbed_input(i, in), vulfsjor_tree_leaves, o, on, f, e, i, in, __VA_ARGS__)
 #define vulfsjor_tree_leaves_ahead(t, o, on, k, i, in) \
-    OR_NOTES(note_input(i, in), vulfsjor_tree_leaves_ahead, t, o, on, k, i, in)
+    OR_NOTES(note_absorbed_input(i, in), vulfsjor_tree_leaves_ahead, t, o, on, k, i, in)
 #include "../threads.c"
 #undef close
 
@@ -255,18 +255,18 @@ static void plan_fault(const char *call, int at, int error) {
 }
 
 /* Takes the file of this length, and the root that it has. */
-static void use_file(size_t n, uint32_t leaf_length, unsigned threads) {
+static void make_file_and_its_root(size_t n, uint32_t leaf_length, unsigned threads) {
     plan_fault("", 0, 0);
     length = n;
     leaf = leaf_length;
     asked = threads;
-    write_file(n);
+    write_message_file(n);
     CHECK(!(vulfsjor_tree_root)(wanted, 64, message, n, 0, 0, 0, 0, leaf));
 }
 
-static int by_file(void) { return vulfsjor_tree_root_file(root, 64, path, 0, 0, 0, 0, leaf, asked); }
+static int root_by_file(void) { return vulfsjor_tree_root_file(root, 64, path, 0, 0, 0, 0, leaf, asked); }
 
-static int by_bytes(void) {
+static int root_by_bytes(void) {
     return vulfsjor_tree_root_threads(root, 64, message, length, 0, 0, 0, 0, leaf, asked);
 }
 
@@ -278,7 +278,7 @@ static struct {
     pthread_t thread;
 } reported;
 
-static int note_progress(void *context, uint64_t count) {
+static int note_progress_and_maybe_end(void *context, uint64_t count) {
     CHECK(context == &reported && count > reported.count &&
           pthread_equal(pthread_self(), reported.thread));
     reported.count = count;
@@ -287,7 +287,7 @@ static int note_progress(void *context, uint64_t count) {
 
 /* Absorbs the message after these bytes of it, from memory or from a file, into a state that a failure leaves as it
  * was. */
-static int absorb_after(size_t head, int file) {
+static int update_after_head(size_t head, int file) {
     vulfsjor_tree_state state, before;
     int status, error;
 
@@ -296,7 +296,7 @@ static int absorb_after(size_t head, int file) {
     reported.calls = reported.count = 0;
     reported.thread = pthread_self();
     status = file < 0 ? vulfsjor_tree_update_threads(&state, message + head, length - head, asked)
-                      : vulfsjor_tree_update_fd(&state, file, asked, note_progress, &reported);
+                      : vulfsjor_tree_update_fd(&state, file, asked, note_progress_and_maybe_end, &reported);
     error = errno;
     CHECK(!status || !memcmp(&state, &before, sizeof state));
     CHECK(status || file < 0 || reads.resized_at || reported.count == length - head);
@@ -305,10 +305,10 @@ static int absorb_after(size_t head, int file) {
     return status;
 }
 
-static int by_update(void) { return absorb_after(1000, -1); }
+static int update_by_bytes(void) { return update_after_head(1000, -1); }
 
 /* A descriptor with the message after these bytes: of the file, or of a pipe that holds it. */
-static int descriptor_after(size_t head, int is_pipe) {
+static int open_input_after_head(size_t head, int is_pipe) {
     int ends[2], file = open(path, O_RDONLY | O_CLOEXEC);
 
     if (file < 0 || (lseek)(file, (off_t)head, SEEK_SET) < 0) exit(3);
@@ -322,9 +322,9 @@ static int descriptor_after(size_t head, int is_pipe) {
 }
 
 /* The root of what a descriptor has, or an update with it. */
-static int by_descriptor(size_t head, int is_pipe, int is_update) {
-    const int file = descriptor_after(head, is_pipe),
-              status = is_update ? absorb_after(head, file)
+static int call_by_descriptor(size_t head, int is_pipe, int is_update) {
+    const int file = open_input_after_head(head, is_pipe),
+              status = is_update ? update_after_head(head, file)
                                  : vulfsjor_tree_root_fd(root, 64, file, 0, 0, 0, 0, leaf, asked),
               error = errno;
 
@@ -334,14 +334,14 @@ static int by_descriptor(size_t head, int is_pipe, int is_update) {
     return status;
 }
 
-static int by_pipe(void) { return by_descriptor(0, 1, 0); }
-static int by_piped_rest(void) { return by_descriptor(1000, 1, 1); }
-static int by_rest(void) { return by_descriptor(1000, 0, 1); }
-static int by_all(void) { return by_descriptor(0, 0, 1); }
-static int by_far_rest(void) { return by_descriptor(FAR, 0, 0); }
+static int root_by_pipe(void) { return call_by_descriptor(0, 1, 0); }
+static int update_by_pipe_after_head(void) { return call_by_descriptor(1000, 1, 1); }
+static int update_by_file_after_head(void) { return call_by_descriptor(1000, 0, 1); }
+static int update_by_whole_file(void) { return call_by_descriptor(0, 0, 1); }
+static int root_by_file_past_4_gib(void) { return call_by_descriptor(FAR, 0, 0); }
 
 /* How many descriptors are open, and some more. */
-static int open_descriptors(void) {
+static int count_open_descriptors(void) {
     DIR *all = opendir("/proc/self/fd");
     int count = 0;
 
@@ -352,10 +352,10 @@ static int open_descriptors(void) {
 
 /* Makes the call, after which no memory, thread or descriptor may be left, the root is there or is blank, and the
  * thread is as it was: it has the same signals, and can be canceled or, by turns, not. */
-static int call_cleanly(int (*call)(void)) {
+static int call_and_check_nothing_is_left(int (*call)(void)) {
     static int turn;
     const int given = turn++ % 2 ? PTHREAD_CANCEL_ENABLE : PTHREAD_CANCEL_DISABLE;
-    int open = open_descriptors(), status, error, now;
+    int open = count_open_descriptors(), status, error, now;
     sigset_t before, after;
 
     memcpy(root, blank, 64);
@@ -368,27 +368,27 @@ static int call_cleanly(int (*call)(void)) {
     pthread_setcancelstate(PTHREAD_CANCEL_DISABLE, &now);
     pthread_sigmask(SIG_BLOCK, NULL, &after);
     CHECK(now == given && !could_cancel);
-    CHECK(are_same(&after, &before));
-    CHECK(call != by_file || !reads.inherited);
+    CHECK(are_signal_sets_equal(&after, &before));
+    CHECK(call != root_by_file || !reads.inherited);
     CHECK(!memcmp(root, status ? blank : wanted, 64));
-    CHECK(!atomic_value(&allocated) && !atomic_value(&running) && open_descriptors() == open);
+    CHECK(!atomic_value(&allocated) && !atomic_value(&running) && count_open_descriptors() == open);
     errno = error;
     return status;
 }
 
 /* The same of a call that has to fail with this errno, or to succeed if `error` is 0. */
 static void expect_errno(int (*call)(void), int error) {
-    CHECK(call_cleanly(call) == (error ? -1 : 0) && (!error || errno == error));
+    CHECK(call_and_check_nothing_is_left(call) == (error ? -1 : 0) && (!error || errno == error));
 }
 
 /* Fails the first call of this name, then the second, until there is no such call. There has to be one. */
-static void each_call_fails(int (*call)(void), const char *name, int given, int error) {
+static void fail_each_call_in_turn(int (*call)(void), const char *name, int given, int error) {
     int at = 0, hit = 1;
 
     while (hit) {
         int status;
         plan_fault(name, ++at, given);
-        status = call_cleanly(call);
+        status = call_and_check_nothing_is_left(call);
         hit = fault.counted >= at;
         CHECK(status == (hit && error ? -1 : 0) && (!status || errno == error));
     }
@@ -398,10 +398,10 @@ static void each_call_fails(int (*call)(void), const char *name, int given, int 
 
 /* The file has another length from this read on. */
 static void resize_at_read(int at, size_t size, int error) {
-    int (*const calls[])(void) = {by_file, by_all};
+    int (*const calls[])(void) = {root_by_file, update_by_whole_file};
 
     for (size_t i = 0; i < COUNT_OF(calls); i++) {
-        write_file(length);
+        write_message_file(length);
         plan_fault("", 0, 0);
         reads.resized_at = at;
         reads.size = (off_t)size;
@@ -415,152 +415,154 @@ static void resize_at_read(int at, size_t size, int error) {
 /* ---- the tests */
 
 /* What fails in these calls, each time that it is made. */
-static void everything_fails(void) {
+static void check_each_failing_call(void) {
     static const struct {
         const char *name;
         int given, error;
         int (*calls[7])(void);
     } rows[] = {
-        {"malloc", 0, ENOMEM, {by_bytes, by_update, by_file, by_pipe, by_rest, by_piped_rest}},
-        {"pthread_create", EAGAIN, 0, {by_bytes, by_update, by_file, by_rest}}, /* those that run hash everything */
-        {"pread", ESTALE, ESTALE, {by_file, by_rest}},
-        {"read", ECONNRESET, ECONNRESET, {by_pipe, by_piped_rest}},
-        {"lseek", EOVERFLOW, EOVERFLOW, {by_file, by_rest}},
-        {"fstat", EOVERFLOW, EOVERFLOW, {by_file, by_rest}},
-        {"vulfsjor_tree_leaves", 0, EINVAL, {by_bytes, by_file}},
-        {"vulfsjor_tree_leaves_ahead", 0, EINVAL, {by_update, by_rest}},
-        {"vulfsjor_tree_init_root", 0, EINVAL, {by_bytes, by_file}},
-        {"vulfsjor_blake2b_update", 0, EINVAL, {by_bytes, by_file}},
-        {"vulfsjor_blake2b_final", 0, EINVAL, {by_bytes, by_file}},
-        {"vulfsjor_tree_plan", 0, EINVAL, {by_bytes}},
-        {"vulfsjor_tree_plan", 0, EFBIG, {by_file}},
-        {"vulfsjor_tree_plan_update", 0, EINVAL, {by_update}},
-        {"vulfsjor_tree_part", 0, EINVAL, {by_bytes, by_file, by_update, by_rest}},
-        {"vulfsjor_tree_update_leaves", 0, EINVAL, {by_update, by_rest}},
-        {"vulfsjor_tree_update", 0, EINVAL, {by_update}},
-        {"vulfsjor_tree_update", 0, EFBIG, {by_pipe, by_piped_rest}},
-        {"vulfsjor_tree_final", 0, EINVAL, {by_pipe}}};
+        {"malloc", 0, ENOMEM, {root_by_bytes, update_by_bytes, root_by_file, root_by_pipe, update_by_file_after_head,
+                               update_by_pipe_after_head}},
+        {"pthread_create", EAGAIN, 0, {root_by_bytes, update_by_bytes, root_by_file, update_by_file_after_head}},
+        /* those that run hash everything */
+        {"pread", ESTALE, ESTALE, {root_by_file, update_by_file_after_head}},
+        {"read", ECONNRESET, ECONNRESET, {root_by_pipe, update_by_pipe_after_head}},
+        {"lseek", EOVERFLOW, EOVERFLOW, {root_by_file, update_by_file_after_head}},
+        {"fstat", EOVERFLOW, EOVERFLOW, {root_by_file, update_by_file_after_head}},
+        {"vulfsjor_tree_leaves", 0, EINVAL, {root_by_bytes, root_by_file}},
+        {"vulfsjor_tree_leaves_ahead", 0, EINVAL, {update_by_bytes, update_by_file_after_head}},
+        {"vulfsjor_tree_init_root", 0, EINVAL, {root_by_bytes, root_by_file}},
+        {"vulfsjor_blake2b_update", 0, EINVAL, {root_by_bytes, root_by_file}},
+        {"vulfsjor_blake2b_final", 0, EINVAL, {root_by_bytes, root_by_file}},
+        {"vulfsjor_tree_plan", 0, EINVAL, {root_by_bytes}},
+        {"vulfsjor_tree_plan", 0, EFBIG, {root_by_file}},
+        {"vulfsjor_tree_plan_update", 0, EINVAL, {update_by_bytes}},
+        {"vulfsjor_tree_part", 0, EINVAL, {root_by_bytes, root_by_file, update_by_bytes, update_by_file_after_head}},
+        {"vulfsjor_tree_update_leaves", 0, EINVAL, {update_by_bytes, update_by_file_after_head}},
+        {"vulfsjor_tree_update", 0, EINVAL, {update_by_bytes}},
+        {"vulfsjor_tree_update", 0, EFBIG, {root_by_pipe, update_by_pipe_after_head}},
+        {"vulfsjor_tree_final", 0, EINVAL, {root_by_pipe}}};
 
-    use_file(FEW, 4096, 4);
+    make_file_and_its_root(FEW, 4096, 4);
     for (size_t i = 0; i < COUNT_OF(rows); i++)
         for (int (*const *call)(void) = rows[i].calls; *call; call++)
-            each_call_fails(*call, rows[i].name, rows[i].given, rows[i].error);
+            fail_each_call_in_turn(*call, rows[i].name, rows[i].given, rows[i].error);
     asked = 1;
-    each_call_fails(by_bytes, "vulfsjor_tree_root", 0, EINVAL);
-    each_call_fails(by_update, "vulfsjor_tree_update", 0, EINVAL);
-    use_file(BYTES, 17 << 20, 2);
-    each_call_fails(by_file, "vulfsjor_tree_init_leaf", 0, EINVAL);
-    each_call_fails(by_file, "vulfsjor_blake2b_final", 0, EINVAL);
-    each_call_fails(by_all, "vulfsjor_tree_init_leaf", 0, EINVAL);
+    fail_each_call_in_turn(root_by_bytes, "vulfsjor_tree_root", 0, EINVAL);
+    fail_each_call_in_turn(update_by_bytes, "vulfsjor_tree_update", 0, EINVAL);
+    make_file_and_its_root(BYTES, 17 << 20, 2);
+    fail_each_call_in_turn(root_by_file, "vulfsjor_tree_init_leaf", 0, EINVAL);
+    fail_each_call_in_turn(root_by_file, "vulfsjor_blake2b_final", 0, EINVAL);
+    fail_each_call_in_turn(update_by_whole_file, "vulfsjor_tree_init_leaf", 0, EINVAL);
 }
 
 /* One call fails, of which there are more, or which is not made: then `error` is 0. */
-static void one_fails(const char *name, int at, int given, int (*call)(void), int error) {
+static void check_one_failing_call(const char *name, int at, int given, int (*call)(void), int error) {
     plan_fault(name, at, given);
     expect_errno(call, error);
     CHECK(error || fault.counted < at || started == at - 1);
 }
 
-static void some_fail(void) {
-    use_file(FEW, 4096, 4);
-    one_fails("malloc", 2, 0, by_bytes, 0); /* one for digests, since the bytes are in memory */
-    one_fails("vulfsjor_tree_plan_update", 1, 0, by_rest, EFBIG);
-    one_fails("vulfsjor_tree_plan_update", 2, 0, by_rest, EINVAL);
+static void check_some_failing_calls(void) {
+    make_file_and_its_root(FEW, 4096, 4);
+    check_one_failing_call("malloc", 2, 0, root_by_bytes, 0); /* one for digests, since the bytes are in memory */
+    check_one_failing_call("vulfsjor_tree_plan_update", 1, 0, update_by_file_after_head, EFBIG);
+    check_one_failing_call("vulfsjor_tree_plan_update", 2, 0, update_by_file_after_head, EINVAL);
     asked = 1;
-    one_fails("malloc", 1, 0, by_bytes, 0); /* one thread needs none */
-    one_fails("malloc", 1, 0, by_update, 0);
-    use_file(FEW, 100, 8);
-    one_fails("pthread_create", 1, EAGAIN, by_bytes, 0); /* after one that failed no other is tried */
-    one_fails("pthread_create", 4, EAGAIN, by_file, 0);
-    use_file(BYTES, 17 << 20, 2);
-    one_fails("vulfsjor_blake2b_update", 20, 0, by_file, EINVAL);
-    one_fails("pread", 1, EIO, by_file, EIO);
-    one_fails("pread", 30, ENXIO, by_file, ENXIO);
+    check_one_failing_call("malloc", 1, 0, root_by_bytes, 0); /* one thread needs none */
+    check_one_failing_call("malloc", 1, 0, update_by_bytes, 0);
+    make_file_and_its_root(FEW, 100, 8);
+    check_one_failing_call("pthread_create", 1, EAGAIN, root_by_bytes, 0); /* after one that failed no other is tried */
+    check_one_failing_call("pthread_create", 4, EAGAIN, root_by_file, 0);
+    make_file_and_its_root(BYTES, 17 << 20, 2);
+    check_one_failing_call("vulfsjor_blake2b_update", 20, 0, root_by_file, EINVAL);
+    check_one_failing_call("pread", 1, EIO, root_by_file, EIO);
+    check_one_failing_call("pread", 30, ENXIO, root_by_file, ENXIO);
     /* The first error stays, and the other threads see it and stop after the read that each is
      * in. */
-    use_file(BYTES, 65536, 4);
+    make_file_and_its_root(BYTES, 65536, 4);
     reads.waits = 1;
-    one_fails("pread", 1, ENXIO, by_file, ENXIO);
+    check_one_failing_call("pread", 1, ENXIO, root_by_file, ENXIO);
     CHECK(reads.calls >= 2 && reads.calls <= 4);
     reads.resized_at = 1;
     reads.file = open(path, O_RDWR);
     reads.size = 0;
-    one_fails("pread", 1, ENXIO, by_file, ENXIO); /* where the others have EIO */
+    check_one_failing_call("pread", 1, ENXIO, root_by_file, ENXIO); /* where the others have EIO */
     close(reads.file);
     memset(&reads, 0, sizeof reads);
 }
 
-static void reads_are_short(void) {
-    use_file(FEW, 777, 4);
+static void check_short_reads(void) {
+    make_file_and_its_root(FEW, 777, 4);
     for (reads.interrupted = 0; reads.interrupted < 2; reads.interrupted++)
         for (reads.most = 1; reads.most < 1 << 17; reads.most = reads.most * 5 + 3) {
             plan_fault("", 0, 0);
-            expect_errno(by_file, 0);
-            expect_errno(by_pipe, 0);
-            expect_errno(by_rest, 0);
-            expect_errno(by_piped_rest, 0);
+            expect_errno(root_by_file, 0);
+            expect_errno(root_by_pipe, 0);
+            expect_errno(update_by_file_after_head, 0);
+            expect_errno(update_by_pipe_after_head, 0);
         }
-    use_file(BYTES, 17 << 20, 2); /* the rest has a whole leaf that is not the first */
+    make_file_and_its_root(BYTES, 17 << 20, 2); /* the rest has a whole leaf that is not the first */
     reads.interrupted = 1;
     reads.most = 300001;
-    expect_errno(by_file, 0);
-    expect_errno(by_rest, 0);
+    expect_errno(root_by_file, 0);
+    expect_errno(update_by_file_after_head, 0);
     memset(&reads, 0, sizeof reads);
 }
 
 /* While the first part is read, the others are hashed, as far as there is room for their digests:
  * for those of eight parts. Then the first read fails. */
-static void threads_wait_for_the_first_part(void) {
-    use_file(BYTES, 100, 4);
+static void check_threads_wait_for_first_part(void) {
+    make_file_and_its_root(BYTES, 100, 4);
     reads.least = 8;
     reads.others = 3;
-    expect_errno(by_file, 0);
+    expect_errno(root_by_file, 0);
     plan_fault("first pread", 1, ENXIO);
-    expect_errno(by_file, ENXIO);
+    expect_errno(root_by_file, ENXIO);
     memset(&reads, 0, sizeof reads);
 }
 
 /* What a file becomes meanwhile: with more bytes the root is that of those it had, with fewer
  * none. */
-static void files_change(void) {
+static void check_files_that_change(void) {
     for (asked = 1; asked <= 4; asked += 3) {
-        use_file(FEW, 4096, asked);
+        make_file_and_its_root(FEW, 4096, asked);
         resize_at_read(1, 2 * FEW, 0);
         resize_at_read(1, FEW - 1, EIO);
         resize_at_read(1, 0, EIO);
-        use_file(34 << 20, 17 << 20, asked);
+        make_file_and_its_root(34 << 20, 17 << 20, asked);
         resize_at_read(3, 70 << 20, 0);
         resize_at_read(3, (34 << 20) - 1, EIO);
     }
 }
 
 /* A function for progress ends a call at each of its calls, of which there are some. */
-static void progress_ends_calls(void) {
-    int (*const calls[])(void) = {by_rest, by_all, by_piped_rest};
+static void check_progress_ends_calls(void) {
+    int (*const calls[])(void) = {update_by_file_after_head, update_by_whole_file, update_by_pipe_after_head};
 
-    use_file(FEW, 4096, 3);
+    make_file_and_its_root(FEW, 4096, 3);
     for (size_t i = 0; i < COUNT_OF(calls); i++) {
         expect_errno(calls[i], 0);
         CHECK(reported.calls >= 1);
         for (int most = reported.calls, at = 1; at <= most; at++) {
             reported.last_call = at;
             plan_fault("", 0, 0);
-            if (call_cleanly(calls[i])) CHECK(errno == ECANCELED && reported.calls == at);
+            if (call_and_check_nothing_is_left(calls[i])) CHECK(errno == ECANCELED && reported.calls == at);
             else CHECK(reported.calls < at); /* this thread had fewer parts now */
         }
         reported.last_call = 0;
     }
-    use_file(FEW, 4096, 1);
-    expect_errno(by_all, 0);
+    make_file_and_its_root(FEW, 4096, 1);
+    expect_errno(update_by_whole_file, 0);
     CHECK(reported.calls >= 2);
-    use_file((1 << 20) + 1000, 4096, 1);
-    expect_errno(by_piped_rest, 0);
+    make_file_and_its_root((1 << 20) + 1000, 4096, 1);
+    expect_errno(update_by_pipe_after_head, 0);
     CHECK(reported.calls == 1); /* not again at the end of a stream of whole pieces */
-    use_file(34 << 20, 17 << 20, 1); /* two leaves that are longer than a buffer */
-    expect_errno(by_all, 0);
+    make_file_and_its_root(34 << 20, 17 << 20, 1); /* two leaves that are longer than a buffer */
+    expect_errno(update_by_whole_file, 0);
     CHECK(reported.calls == 34);
     reported.last_call = 3;
-    CHECK(by_all() == -1 && errno == ECANCELED && reported.calls == 3);
+    CHECK(update_by_whole_file() == -1 && errno == ECANCELED && reported.calls == 3);
     reported.last_call = 0;
 }
 
@@ -575,22 +577,22 @@ static void expect_threads(int others, int (*call)(void), int (*second)(void)) {
 }
 
 static void expect_threads_for_file(size_t n, uint32_t leaf_length, unsigned threads, int others) {
-    use_file(n, leaf_length, threads);
-    expect_threads(others, by_bytes, by_file);
-    if (EACH_BYTE) expect_threads(others, by_update, by_rest);
+    make_file_and_its_root(n, leaf_length, threads);
+    expect_threads(others, root_by_bytes, root_by_file);
+    if (EACH_BYTE) expect_threads(others, update_by_bytes, update_by_file_after_head);
 }
 
-static void numbers_of_threads(void) {
+static void check_numbers_of_threads(void) {
     static const int answers[][2] = {{3, 2}, {1, 0}, {0, 0}, {-1, 0}};
     cpu_set_t all, few;
 
     expect_threads_for_file(FEW, 1, 300, 255);
     expect_threads_for_file(FEW, 100, 5, 4);
     expect_threads_for_file(FEW, 100, 1, 0);
-    use_file(FEW, FEW / 2, 5); /* two leaves */
-    expect_threads(1, by_bytes, by_file);
-    use_file(3001, 1000, 5); /* two leaves after one that is whole, and a byte */
-    expect_threads(1, by_update, by_rest);
+    make_file_and_its_root(FEW, FEW / 2, 5); /* two leaves */
+    expect_threads(1, root_by_bytes, root_by_file);
+    make_file_and_its_root(3001, 1000, 5); /* two leaves after one that is whole, and a byte */
+    expect_threads(1, update_by_bytes, update_by_file_after_head);
     CHECK(!sched_getaffinity(0, sizeof all, &all));
     expect_threads_for_file(FEW, 100, 0, CPU_COUNT(&all) - 1);
     CPU_ZERO(&few);
@@ -606,7 +608,7 @@ static void numbers_of_threads(void) {
 }
 
 /* One thread at most for each 256 KiB, and a shorter file is read to its end, wherever that is. */
-static void least_bytes(void) {
+static void check_least_bytes_for_threads(void) {
     static const struct {
         size_t length;
         int others;
@@ -614,11 +616,11 @@ static void least_bytes(void) {
                 {1 << 19, 1},       {(1 << 20) - 1, 2}, {1 << 20, 3}};
 
     for (size_t i = 0; i < COUNT_OF(rows); i++) expect_threads_for_file(rows[i].length, 1000, 8, rows[i].others);
-    use_file((1 << 18) - 1, 1000, 8);
-    each_call_fails(by_file, "read", ENXIO, ENXIO);
-    use_file(1 << 18, 1000, 8);
-    each_call_fails(by_file, "pread", ENXIO, ENXIO);
-    use_file((1 << 18) - 1, 1000, 8);
+    make_file_and_its_root((1 << 18) - 1, 1000, 8);
+    fail_each_call_in_turn(root_by_file, "read", ENXIO, ENXIO);
+    make_file_and_its_root(1 << 18, 1000, 8);
+    fail_each_call_in_turn(root_by_file, "pread", ENXIO, ENXIO);
+    make_file_and_its_root((1 << 18) - 1, 1000, 8);
     CHECK(!(vulfsjor_tree_root)(wanted, 64, message, 1 << 17, 0, 0, 0, 0, leaf));
     resize_at_read(1, 1 << 17, 0);
 }
@@ -627,7 +629,7 @@ static void least_bytes(void) {
  * whichever is more, and those of a part have 1 MiB or less; and for each thread that reads a file
  * a buffer of 1 MiB or four leaves, whichever is more, or of 16 MiB at most. With each part's
  * digests there is one more byte. An update needs 64 bytes for each leaf, and by a file 16 MiB. */
-static void memory_is_as_said(void) {
+static void check_documented_memory(void) {
     enum { MIB = 1 << 20, ROOM = (MIB / 400) * 256 };
     static const struct {
         size_t length, leaf, digests;
@@ -640,38 +642,39 @@ static void memory_is_as_said(void) {
                                      {UINT32_MAX, MIB}};
 
     for (size_t i = 0; i < COUNT_OF(messages); i++) {
-        use_file(messages[i].length, (uint32_t)messages[i].leaf, 2);
+        make_file_and_its_root(messages[i].length, (uint32_t)messages[i].leaf, 2);
         plan_fault("malloc", 0, 0);
-        expect_errno(by_bytes, 0);
+        expect_errno(root_by_bytes, 0);
         CHECK(largest == messages[i].digests && fault.counted == 1);
     }
-    use_file(FEW * 6, 100, 2);
-    expect_errno(by_update, 0);
+    make_file_and_its_root(FEW * 6, 100, 2);
+    expect_errno(update_by_bytes, 0);
     CHECK(largest == 64 * ((FEW * 6 - 1000) / 100 - 1)); /* all but the last leaf */
     for (size_t i = 0; i < COUNT_OF(rows); i++) {
-        use_file(BYTES, (uint32_t)rows[i][0], 2);
-        expect_errno(by_file, 0);
+        make_file_and_its_root(BYTES, (uint32_t)rows[i][0], 2);
+        expect_errno(root_by_file, 0);
         CHECK(largest == rows[i][1]);
-        expect_errno(by_all, 0);
+        expect_errno(update_by_whole_file, 0);
         CHECK(largest == rows[i][1]);
     }
-    use_file(BYTES, 100, 2);
-    expect_errno(by_all, 0);
+    make_file_and_its_root(BYTES, 100, 2);
+    expect_errno(update_by_whole_file, 0);
     CHECK(largest > 15 * MIB && largest <= 16 * MIB);
 }
 
 /* Each byte of a file or in memory is read once, of more than 2^32 bytes. There is one page of them, and nothing is
  * hashed. */
-static void long_inputs(void) {
+static void check_inputs_past_4_gib(void) {
     static const uint32_t leaves[] = {4096,    65536,   1 << 22, 1 << 24, (1 << 24) + (1 << 20),
                                       1 << 26, 1u << 31};
     static const struct {
         int (*call)(void);
         size_t from;
-    } rows[] = {{by_file, 0}, {by_all, 0}, {by_far_rest, FAR}, {by_bytes, 0}, {by_update, 1000}};
+    } rows[] = {{root_by_file, 0}, {update_by_whole_file, 0}, {root_by_file_past_4_gib, FAR}, {root_by_bytes, 0},
+                {update_by_bytes, 1000}};
     unsigned char *const kept = message;
 
-    use_file(FEW, 65536, 3);
+    make_file_and_its_root(FEW, 65536, 3);
     length = ((size_t)1 << 32) + (64 << 20) + 1;
     message = mmap(NULL, length, PROT_READ, MAP_PRIVATE | MAP_ANONYMOUS | MAP_NORESERVE, -1, 0);
     CHECK(message != MAP_FAILED && !truncate(path, (off_t)length));
@@ -694,17 +697,17 @@ int main(int count, char **words) {
     make_message(BYTES, words[1]);
     caller = pthread_self();
     if (EACH_BYTE) {
-        RUN(everything_fails());
-        RUN(some_fail());
-        RUN(reads_are_short());
-        RUN(threads_wait_for_the_first_part());
-        RUN(files_change());
-        RUN(progress_ends_calls());
-        RUN(numbers_of_threads());
+        RUN(check_each_failing_call());
+        RUN(check_some_failing_calls());
+        RUN(check_short_reads());
+        RUN(check_threads_wait_for_first_part());
+        RUN(check_files_that_change());
+        RUN(check_progress_ends_calls());
+        RUN(check_numbers_of_threads());
     } else {
-        RUN(least_bytes());
-        RUN(memory_is_as_said());
-        RUN(long_inputs());
+        RUN(check_least_bytes_for_threads());
+        RUN(check_documented_memory());
+        RUN(check_inputs_past_4_gib());
     }
     CHECK(!wrong_masks);
     unlink(path);

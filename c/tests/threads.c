@@ -27,35 +27,36 @@ static char other[PATH_MAX];
 
 /* ---- roots */
 
-static void random_roots(int turns) {
+static void check_random_roots(int turns) {
     static const uint32_t most[] = {10, 2000, 70000, 3000000};
 
     for (int turn = 0; turn < turns; turn++) {
         size_t length = turn % 3 == 2 ? random_below(BYTES) : turn < 40 ? (size_t)turn : random_below(20000);
         uint32_t leaf = (uint32_t)(1 + random_below(most[turn % 4]));
         if (leaf < 100) length %= 50000;
-        write_file(length);
+        write_message_file(length);
         for (unsigned threads = 0; threads <= 9; threads += 1 + (unsigned)random_below(4))
-            compare_roots(length, random_below(3) ? random_below(length + 1) : 0, 1 + random_below(64), leaf, threads);
-        compare_roots(length, 0, 64, leaf, UINT_MAX - (unsigned)turn);
+            check_roots_of_message_and_file(length, random_below(3) ? random_below(length + 1) : 0,
+                                            1 + random_below(64), leaf, threads);
+        check_roots_of_message_and_file(length, 0, 64, leaf, UINT_MAX - (unsigned)turn);
     }
 }
 
 /* Updates that end at leaves, one byte before and one byte after. */
-static void updates_to_leaves(void) {
+static void check_updates_around_leaf_ends(void) {
     enum { LEAF = 70000 };
 
     for (size_t i = 0; i < 9; i++) {
         const size_t head = 10 * LEAF - 1 + i % 3, length = head + 9 * LEAF - 1 + i / 3;
-        write_file(length);
-        compare_roots(length, head, 64, LEAF, 3);
+        write_message_file(length);
+        check_roots_of_message_and_file(length, head, 64, LEAF, 3);
     }
 }
 
 /* ---- files */
 
 /* Writes the beginning of the message to this descriptor, or to the other file if it is none. Returns null if it can. */
-static void *write_stream(void *given) {
+static void *write_message_to_stream(void *given) {
     const int file = *(int *)given < 0 ? open(other, O_WRONLY) : *(int *)given;
     const ssize_t written = write(file, message, STREAM);
 
@@ -64,7 +65,7 @@ static void *write_stream(void *given) {
 
 /* The roots of what comes through a named pipe and a socket while a thread writes to it, and of an update, whose
  * progress grows to the length. thread_faults.c has pipes, and reads of any length. */
-static void check_streams(void) {
+static void check_pipe_and_socket_roots(void) {
     int never = 0;
 
     unlink(other);
@@ -77,7 +78,7 @@ static void check_streams(void) {
         reported = 0;
         CHECK(!vulfsjor_tree_init(&state, 64, NO_TEXTS, 65536));
         CHECK((!way || !socketpair(AF_UNIX, SOCK_STREAM, 0, ends)) &&
-              !pthread_create(&writer, NULL, write_stream, &ends[1]));
+              !pthread_create(&writer, NULL, write_message_to_stream, &ends[1]));
         CHECK(!(way == 0   ? vulfsjor_tree_root_file(root, 64, other, NO_TEXTS, 65536, 4)
                 : way == 1 ? vulfsjor_tree_root_fd(root, 64, ends[0], NO_TEXTS, 65536, 4)
                            : vulfsjor_tree_update_fd(&state, ends[0], 4, note_progress, &never) ||
@@ -88,7 +89,7 @@ static void check_streams(void) {
 }
 
 /* A position behind the end, where nothing is left. */
-static void position_behind_end(void) {
+static void check_position_behind_end(void) {
     int file = open(path, O_RDONLY);
 
     CHECK(lseek(file, STREAM, SEEK_SET) == STREAM && !vulfsjor_tree_root(wanted, 64, NULL, 0, NO_TEXTS, 4096));
@@ -125,7 +126,7 @@ static void check_special_files(void) {
     } while (0)
 
 /* Wrong arguments of each call, alone, which it refuses before anything is opened or read. */
-static void refused_arguments(void) {
+static void check_refused_arguments(void) {
     static const struct {
         size_t outlen, saltlen, personallen;
         const void *salt, *personal;
@@ -139,7 +140,7 @@ static void refused_arguments(void) {
     int ends[2], file;
 
     memset(&state, 0, sizeof state);
-    write_file(1 << 20);
+    write_message_file(1 << 20);
     CHECK((file = open(path, O_RDONLY)) >= 0);
     CHECK(!pipe(ends) && write(ends[1], "a", 1) == 1 && !close(ends[1]));
     for (size_t i = 0; i < COUNT_OF(rows); i++) {
@@ -169,30 +170,30 @@ static void refused_arguments(void) {
 }
 
 /* Refuses the descriptor with this error, and closes it. */
-static void refused_file(int error, int file) {
+static void expect_descriptor_refused(int error, int file) {
     REFUSED(error, vulfsjor_tree_root_fd(root, 64, file, NO_TEXTS, 4, 2));
     REFUSED(error, vulfsjor_tree_update_fd(&state, file, 2, NULL, NULL));
     close(file);
 }
 
-static void refused_files(void) {
+static void check_refused_files(void) {
     static const struct {
         const char *path;
         int error;
     } paths[] = {{"/", EISDIR}, {"/nowhere/at/all", ENOENT}, {"", ENOENT}, {"/dev/null/file", ENOTDIR}};
     int ends[2], huge = memfd_create("huge", 0);
 
-    write_file(1 << 20);
-    refused_file(EBADF, -1);
-    refused_file(EBADF, open(path, O_WRONLY));
-    refused_file(EBADF, open(path, O_PATH));
-    refused_file(EISDIR, open("/", O_RDONLY));
+    write_message_file(1 << 20);
+    expect_descriptor_refused(EBADF, -1);
+    expect_descriptor_refused(EBADF, open(path, O_WRONLY));
+    expect_descriptor_refused(EBADF, open(path, O_PATH));
+    expect_descriptor_refused(EISDIR, open("/", O_RDONLY));
     CHECK(!ftruncate(huge, ((off_t)1 << 58) - 7)); /* the state has 7 bytes */
     REFUSED(EFBIG, vulfsjor_tree_update_fd(&state, huge, 2, NULL, NULL));
     CHECK(!ftruncate(huge, (off_t)1 << 58));
-    refused_file(EFBIG, huge);
+    expect_descriptor_refused(EFBIG, huge);
     CHECK(!pipe2(ends, O_NONBLOCK));
-    refused_file(EAGAIN, ends[0]);
+    expect_descriptor_refused(EAGAIN, ends[0]);
     close(ends[1]);
     for (size_t i = 0; i < COUNT_OF(paths); i++)
         REFUSED(paths[i].error, vulfsjor_tree_root_file(root, 64, paths[i].path, NO_TEXTS, 4, 2));
@@ -200,7 +201,7 @@ static void refused_files(void) {
 
 /* ---- calls at the same time */
 
-static void *call_often(void *given) {
+static void *make_calls_in_thread(void *given) {
     unsigned char mine[64];
     uintptr_t wrong = 0;
 
@@ -211,12 +212,12 @@ static void *call_often(void *given) {
     return (void *)wrong;
 }
 
-static void calls_at_the_same_time(void) {
+static void check_concurrent_calls(void) {
     pthread_t callers[4];
     void *wrong;
 
     CHECK(!vulfsjor_tree_root(wanted, 64, message, 2 << 20, NO_TEXTS, 65536));
-    for (int i = 0; i < 4; i++) CHECK(!pthread_create(&callers[i], NULL, call_often, wanted));
+    for (int i = 0; i < 4; i++) CHECK(!pthread_create(&callers[i], NULL, make_calls_in_thread, wanted));
     for (int i = 0; i < 4; i++) CHECK(!pthread_join(callers[i], &wrong) && !wrong);
 }
 
@@ -226,14 +227,14 @@ int main(int count, char **words) {
     if (count < 2) return 2;
     make_message(BYTES + 1, words[1]);
     snprintf(other, sizeof other, "%s/other", words[1]);
-    RUN(calls_at_the_same_time());
-    RUN(random_roots(turns));
-    RUN(updates_to_leaves());
-    RUN(check_streams());
-    RUN(position_behind_end());
+    RUN(check_concurrent_calls());
+    RUN(check_random_roots(turns));
+    RUN(check_updates_around_leaf_ends());
+    RUN(check_pipe_and_socket_roots());
+    RUN(check_position_behind_end());
     RUN(check_special_files());
-    RUN(refused_arguments());
-    RUN(refused_files());
+    RUN(check_refused_arguments());
+    RUN(check_refused_files());
     unlink(path);
     free(message);
     return fails ? 1 : 0;

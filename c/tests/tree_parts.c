@@ -12,7 +12,7 @@ static const uint64_t top = (uint64_t)1 << 58; /* the end of the longest message
 
 static uint8_t message[1000];
 
-static void leaf_counts(void) {
+static void check_leaf_counts(void) {
     static const uint32_t sizes[] = {1, 2, 3, 64, 65536, 0x7fffffff, 0x80000000, UINT32_MAX};
     static const uint64_t lengths[] = {0, 1, 3, 1000, 1u << 26, (uint64_t)3 << 32, UINT64_MAX - 1};
 
@@ -29,7 +29,7 @@ static void leaf_counts(void) {
 /* ---- plans */
 
 /* A state of a tree that has absorbed this many bytes. */
-static vulfsjor_tree_state tree_with(uint32_t leaf, size_t bytes) {
+static vulfsjor_tree_state tree_after_absorbing(uint32_t leaf, size_t bytes) {
     vulfsjor_tree_state state;
 
     CHECK(!vulfsjor_tree_init(&state, 64, "na", 2, "pers", 4, leaf) && !vulfsjor_tree_update(&state, message, bytes));
@@ -37,7 +37,7 @@ static vulfsjor_tree_state tree_with(uint32_t leaf, size_t bytes) {
 }
 
 /* Whether a plan is as the comment on vulfsjor_plan says. */
-static int is_as_said(const vulfsjor_plan *p) {
+static int is_plan_as_documented(const vulfsjor_plan *p) {
     const uint64_t all = p->end - p->start;
     uint64_t parts;
 
@@ -55,11 +55,11 @@ static int is_as_said(const vulfsjor_plan *p) {
 
 /* The parts of a plan are next to each other, from leaf 0 on, and so are their digests; the last ends the message if
  * the plan does. */
-static void check_parts(const vulfsjor_plan *plan) {
+static void check_parts_are_adjacent(const vulfsjor_plan *plan) {
     uint64_t at = plan->start, digests = 0;
     vulfsjor_part part;
 
-    CHECK(is_as_said(plan));
+    CHECK(is_plan_as_documented(plan));
     for (uint64_t i = 0; i < plan->part_count; i++) {
         const int is_last = i + 1 == plan->part_count;
         CHECK(!vulfsjor_tree_part(&part, plan, i));
@@ -72,14 +72,14 @@ static void check_parts(const vulfsjor_plan *plan) {
 }
 
 /* Plans of random messages that begin at byte 3, and of updates of a state that has absorbed some bytes. */
-static void random_plans(int turns) {
+static void check_random_plans(int turns) {
     for (int turn = 0; turn < turns; turn++) {
         const uint32_t size = (uint32_t)(1 + random_below(turn % 5 ? 300 : 5));
         const uint64_t length = random_below(turn % 7 ? 1500 : 20), count = vulfsjor_tree_leaf_count(length, size);
         const vulfsjor_limits limits = {1 + random_below(9), 1 + random_below(99), random_below(999),
                                         random_below(2000)};
         const size_t first = random_below(300), left = (size - first % size) % size;
-        vulfsjor_tree_state state = tree_with(size, first);
+        vulfsjor_tree_state state = tree_after_absorbing(size, first);
         uint64_t asked = length / limits.least_bytes;
         vulfsjor_plan plan;
 
@@ -88,10 +88,10 @@ static void random_plans(int turns) {
         CHECK(!vulfsjor_tree_plan(&plan, 3, length, size, &limits) && plan.start == 3 && plan.end == 3 + length);
         CHECK(plan.digests_length == 64 * count && (plan.part_length <= limits.most_bytes || plan.part_length == size));
         CHECK(plan.part_length % (4 * size) == 0 || 4 * size > limits.most_bytes || count < 4 * asked);
-        check_parts(&plan);
+        check_parts_are_adjacent(&plan);
         CHECK(!vulfsjor_tree_plan_update(&plan, &state, length, &limits) && plan.end + plan.rest_length == length);
         CHECK(!plan.part_count || (plan.start == left && !plan.ends));
-        check_parts(&plan);
+        check_parts_are_adjacent(&plan);
     }
 }
 
@@ -99,10 +99,10 @@ static void random_plans(int turns) {
 #define NO_PLAN(call) CHECK((call) == -1 && SAME(plan, kept))
 #define NO_PART(call) CHECK((call) == -1 && SAME(part, kept_part))
 
-static void refused_plans(void) {
+static void check_refused_plans(void) {
     static const vulfsjor_limits good = {2, 1, 8, 8}, no_threads = {0, 1, 8, 8}, no_least = {2, 0, 8, 8};
     const vulfsjor_limits *const wrong[] = {&no_threads, &no_least, NULL};
-    vulfsjor_tree_state state = tree_with(4, 5), none = {0};
+    vulfsjor_tree_state state = tree_after_absorbing(4, 5), none = {0};
     vulfsjor_plan plan = {1, 2, 3, 4, 5, 6, 7, 8, 9}, kept = plan;
     vulfsjor_part part = {1, 2, 3, 4, 5, 6}, kept_part = part;
 
@@ -125,14 +125,14 @@ static void refused_plans(void) {
 }
 
 /* A part of the plan with these numbers is refused if they are no plan's: if not, its digests have room. */
-static void try_numbers(const uint64_t *numbers) {
+static void check_part_of_plan_numbers(const uint64_t *numbers) {
     vulfsjor_plan plan;
     vulfsjor_part first, last;
     int status;
 
     memcpy(&plan, numbers, sizeof plan);
     status = vulfsjor_tree_part(&first, &plan, 0);
-    CHECK(status == (is_as_said(&plan) && plan.part_count ? 0 : -1));
+    CHECK(status == (is_plan_as_documented(&plan) && plan.part_count ? 0 : -1));
     if (status) return;
     CHECK(!vulfsjor_tree_part(&last, &plan, plan.part_count - 1));
     CHECK(first.start == plan.start && last.start + last.length == plan.end);
@@ -141,13 +141,13 @@ static void try_numbers(const uint64_t *numbers) {
 }
 
 /* Each number of a plan changed to others, of which some leave a plan. */
-static void changed_plans(void) {
+static void check_changed_plans(void) {
     static const vulfsjor_limits limits = {3, 1, 16, 100};
     static const uint64_t rows[][2] = {{7, 41}, {0, 0}, {5, 4}}, updates[] = {50, 7, 3}; /* 3: no whole leaf */
     const uint64_t values[] = {0, 1, 2, 3, 4, 5, 64, UINT32_MAX, (uint64_t)1 << 32, top, UINT64_MAX - 1, UINT64_MAX};
     const uint64_t steps[] = {1, 4, 16, 64, (uint64_t)1 << 32, (uint64_t)1 << 63};
     enum { FIELDS = sizeof(vulfsjor_plan) / 8 };
-    vulfsjor_tree_state state = tree_with(4, 6);
+    vulfsjor_tree_state state = tree_after_absorbing(4, 6);
     uint64_t numbers[FIELDS];
     vulfsjor_plan plan;
 
@@ -157,19 +157,19 @@ static void changed_plans(void) {
                         : vulfsjor_tree_plan_update(&plan, &state, updates[row - 3], &limits)));
         memcpy(numbers, &plan, sizeof plan);
         const uint64_t was = numbers[field];
-        for (size_t k = 0; k < COUNT_OF(values); k++) numbers[field] = values[k], try_numbers(numbers);
+        for (size_t k = 0; k < COUNT_OF(values); k++) numbers[field] = values[k], check_part_of_plan_numbers(numbers);
         for (size_t k = 0; k < COUNT_OF(steps); k++) {
-            numbers[field] = was + steps[k], try_numbers(numbers);
-            numbers[field] = was - steps[k], try_numbers(numbers);
+            numbers[field] = was + steps[k], check_part_of_plan_numbers(numbers);
+            numbers[field] = was - steps[k], check_part_of_plan_numbers(numbers);
         }
     }
 }
 
 int main(int count, char **words) {
     for (size_t i = 0; i < sizeof message; i++) message[i] = (uint8_t)(i % 251);
-    leaf_counts();
-    refused_plans();
-    changed_plans();
-    random_plans(count > 1 ? atoi(words[1]) : 20000);
+    check_leaf_counts();
+    check_refused_plans();
+    check_changed_plans();
+    check_random_plans(count > 1 ? atoi(words[1]) : 20000);
     return fails ? 1 : 0;
 }

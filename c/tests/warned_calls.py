@@ -11,7 +11,7 @@ init, which makes later calls fail too, load, reset and set_last_node."""
 import re
 import sys
 
-from passed_arguments import prototypes
+from passed_arguments import header_prototypes
 
 STATES = "blake2b", "blake2s", "blake2bp", "blake2sp", "blake2xb", "blake2xs", "tree"
 OTHERS = "text|bytes|is_half_key|are_refused|ffi_.*"
@@ -19,10 +19,10 @@ LENGTHS = {"a": "length", "b": "length", "bytes": "length", "messages": "count",
 ARRAY = "unsigned char *"  # that of save
 
 
-def functions(include):
+def c_functions(include):
     """Yields the name, the type and the parameters, each a type and a name, of each function for C."""
     for header in "vulfsjor.h", "vulfsjor_threads.h":
-        for name, (kind, parameters) in prototypes(include, header).items():
+        for name, (kind, parameters) in header_prototypes(include, header).items():
             if kind in ("int", "void") and not re.fullmatch(f"vulfsjor_({OTHERS})", name):
                 yield name, kind, parameters
 
@@ -37,7 +37,7 @@ def has_length(name, parameters, i):
         LENGTHS.get(word, word + "len") in (other for _, other in parameters)
 
 
-def argument(kind, word):
+def valid_argument(kind, word):
     """A right argument for a parameter."""
     if kind.endswith("state *"):
         return re.search(r"vulfsjor_(\w+)_state", kind)[1] + "_all"
@@ -46,16 +46,16 @@ def argument(kind, word):
     return "0" if word == "progress" else "8"
 
 
-def calls(include):
+def calls_and_validity(include):
     """Yields each call, with right lengths and then with less memory for each pointer, and one whose status is ignored;
     and whether it is right."""
-    for name, kind, parameters in functions(include):
+    for name, kind, parameters in c_functions(include):
         if kind == "int":
             yield (bool(re.search("_(init|load|reset|set_last_node)", name)),
                    f"{name}({', '.join('0' * len(parameters))});")
         lengths = [i for i in range(len(parameters)) if has_length(name, parameters, i)]
         for short in [None] + lengths if lengths else []:
-            given = [argument(*parameter) for parameter in parameters]
+            given = [valid_argument(*parameter) for parameter in parameters]
             if parameters[-1][0] == ARRAY:
                 given[-1] = f"{'saved' if short is None else 'cut'}_{name.split('_')[1]}"
             elif short is not None:
@@ -64,7 +64,7 @@ def calls(include):
 
 
 def main():
-    every = list(calls(sys.argv[1]))
+    every = list(calls_and_validity(sys.argv[1]))
     print("#include <vulfsjor_threads.h>", *(f"static vulfsjor_{name}_state {name}_all[8];" for name in STATES),
           *(f"static vulfsjor_{name}_state {name}_fewer[7];" for name in STATES[:2]),
           *(f"static unsigned char saved_{name}[VULFSJOR_{name.upper()}_SAVEDBYTES], "

@@ -12,7 +12,7 @@ if [ -n "${VULFSJOR_TEST_HUGE-}" ]; then
 fi
 
 # All that quiet.c is, in a compiler's words: COMPILER LANGUAGE WORDS..
-is_quiet() {
+compiles_without_warnings() {
     local each names only=-c
     # Clang has warned of all before it optimizes.
     [[ $1 != clang* ]] || [ -n "${VULFSJOR_TEST_HUGE-}" ] || only=-fsyntax-only
@@ -25,7 +25,7 @@ is_quiet() {
 }
 
 # A status of vulfsjor.h that is not used is warned of, without a word for the compiler, and so is no other: COMPILER
-unused_is_warned_of() {
+unused_status_is_warned_of() {
     local call
     for call in 'vulfsjor.h vulfsjor_' 'vulfsjor-reference/blake2.h ' 'vulfsjor-libb2/blake2.h '; do
         printf '%s\n' "#include <${call% *}>" 'int main(void) {' "${call#* }blake2b_state state;" \
@@ -38,7 +38,7 @@ unused_is_warned_of() {
 }
 
 # What the programs print is the same by each compiler.
-prints_the_same() {
+programs_print_the_same() {
     local names compiler
     for names in "" -DLIBB2 -DREFERENCE; do
         for compiler in gcc clang; do
@@ -52,19 +52,19 @@ prints_the_same() {
     [ "$(head -c 24 "$work/printed-DLIBB2")" = "$(head -c 24 "$work/printed-DREFERENCE")" ]
 }
 
-test_warnings() {
+test_compiler_warnings() {
     needs gcc
-    check "gcc is quiet" is_quiet gcc c "${c_words[@]}"
-    check "gcc warns of a status that is not used" unused_is_warned_of gcc
+    check "gcc is quiet" compiles_without_warnings gcc c "${c_words[@]}"
+    check "gcc warns of a status that is not used" unused_status_is_warned_of gcc
     needs clang
-    check "clang is quiet" is_quiet clang c "${c_words[@]}"
-    check "clang warns of a status that is not used" unused_is_warned_of clang
+    check "clang is quiet" compiles_without_warnings clang c "${c_words[@]}"
+    check "clang warns of a status that is not used" unused_status_is_warned_of clang
     needs g++
-    check "g++ is quiet" is_quiet g++ c++ "${cpp_words[@]}"
+    check "g++ is quiet" compiles_without_warnings g++ c++ "${cpp_words[@]}"
     needs clang++
-    check "clang++ is quiet" is_quiet clang++ c++ "${cpp_words[@]}"
+    check "clang++ is quiet" compiles_without_warnings clang++ c++ "${cpp_words[@]}"
     needs
-    check "the programs print the same digests" prints_the_same
+    check "the programs print the same digests" programs_print_the_same
 }
 
-part test_warnings
+run_part_of_tests test_compiler_warnings

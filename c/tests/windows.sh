@@ -29,7 +29,7 @@ check_by_wine() {
     return $status
 }
 
-check_once_by_wine() { checking=check_once check_by_wine "$@"; }
+check_once_by_wine() { checking=check_family_once check_by_wine "$@"; }
 check_huge_by_wine() { checking=check_huge check_by_wine "$@"; }
 
 # A script that runs a program for Windows. Lines of C end in a newline only, if it is to do so:
@@ -49,13 +49,13 @@ cc() {
 }
 
 # What is installed, and that all of it goes again.
-installs() {
-    files_come_and_go "$prefix" windows &&
+installs_for_windows() {
+    files_are_installed_and_removed "$prefix" windows &&
         [ "$(cd "$prefix" && find . -perm 755 -type f)" = ./bin/libvulfsjor-1.dll ]
 }
 
 # The DLL has the functions of the header, and needs only what Windows has.
-dll_is_right() {
+dll_exports_and_imports_are_right() {
     x86_64-w64-mingw32-objdump -p "$prefix/bin/libvulfsjor-1.dll" >"$work/dll" &&
         sed -n 's/^\t\[ *[0-9]*\].* \(vulfsjor_[a-z0-9_]*\)$/\1/p' "$work/dll" | LC_ALL=C sort |
         diff - <(sed -n 's/^ *\(vulfsjor_.*\);$/\1/p' "$here/vulfsjor.map" | LC_ALL=C sort) &&
@@ -64,27 +64,29 @@ dll_is_right() {
 
 # A hash with this object of choose.c in the place of the archive's: with only one build, or one that goes from one
 # build to the others.
-hash_by_choice() { run_hash conformance "$1" "$work/$2.o" "$archive"; }
-one_build_for_windows() {
-    choose_build "-DCHOOSE_ONE=$1" "only_$1" && ! nm "$work/only_$1.o" | grep -q vulfsjor_ffi_level &&
-        hash_by_choice blake2b "only_$1"
+run_hash_with_choice() { compile_and_run_hash_test conformance "$1" "$work/$2.o" "$archive"; }
+one_build_works_on_windows() {
+    compile_choice_of_build "-DCHOOSE_ONE=$1" "only_$1" && ! nm "$work/only_$1.o" | grep -q vulfsjor_ffi_level &&
+        run_hash_with_choice blake2b "only_$1"
 }
 
 # The example of c/README.md with a trap in each function of one build, and these objects: BUILD OBJECT..
-example_with_traps() {
+example_avoids_other_builds() {
     sed '/^\tvj_export\t/a\\tud2' "$dist/x86_64/vulfsjor-$1.s" >"$work/trapped.s" &&
         block_of c/README.md c >"$work/hello.c" &&
         "$mingw" -c "$(with_macros "$work/trapped.s")" -o "$work/trapped.o" &&
         cc -O2 -I"$include" "$work/hello.c" "$work/trapped.o" "${@:2}" "$archive" -o "$work/hello" &&
-        "$work/hello" >"$work/said" && diff "$work/said" <(wanted_of_readme)
+        "$work/hello" >"$work/said" && diff "$work/said" <(readme_example_digest)
 }
-chooses_the_build() {
-    example_with_traps v2 && ! example_with_traps "v$level"
+newest_build_is_chosen() {
+    example_avoids_other_builds v2 && ! example_avoids_other_builds "v$level"
 }
-chooses_older() { choose_build -DCHOOSE_TEST=2 older && example_with_traps v3 "$work/older.o"; }
+older_build_is_chosen() {
+    compile_choice_of_build -DCHOOSE_TEST=2 older && example_avoids_other_builds v3 "$work/older.o"
+}
 
 # CMake, with the static library and with the shared one, as a part of a project.
-project_for_windows() {
+cmake_project_works_for_windows() {
     local shared=$1 folder=$work/project_$1
     mkdir -p "$folder" && block_of c/README.md c >"$folder/hello.c" &&
         printf '%s\n' 'cmake_minimum_required(VERSION 3.13)' 'project(project LANGUAGES C)' \
@@ -95,12 +97,12 @@ project_for_windows() {
             -DBUILD_SHARED_LIBS="$shared" &&
         cmake --build "$folder/build" && write_script "$folder/build/hello" &&
         WINEPATH=$folder/build/vulfsjor "$folder/build/hello" | tr -d '\r' |
-        diff - <(wanted_of_readme)
+        diff - <(readme_example_digest)
 }
 
 # The program, built as README.md says, by this many cases of each command, and an input with each
 # byte.
-program_for_windows() {
+b2_works_on_windows() {
     CC=$mingw "$top/b2" --build "$work/b2.exe" && write_script "$work/b2" &&
         [ "$("$work/b2" --version | sed 1q)" = "b2 (Vulfsjor) $(version)" ] &&
         "$work/b2" --version | sed 1d | grep -xFf - "$top/dist/MANIFEST" &&
@@ -111,7 +113,7 @@ program_for_windows() {
 }
 
 # The functions of b2.c.
-functions_of_program() {
+b2_c_functions_work() {
     "$mingw" -municode -O2 "${warnings[@]}" -Wno-array-bounds -DCHOOSE_ONE "$tests/b2.c" \
         -o "$work/functions.exe" || return
     "$by_wine" "$work/functions.exe" one "two words" ""
@@ -119,9 +121,9 @@ functions_of_program() {
 }
 
 # The program with this build of the library.
-program_with_build() {
+b2_works_with_build() {
     local text=$dist/x86_64/b2.s
-    "$mingw" -O2 -municode "${warnings[@]}" "-DMAIN=$(main_of "$text")" "-DCHOOSE_TEST=${1#v}" \
+    "$mingw" -O2 -municode "${warnings[@]}" "-DMAIN=$(main_symbol_of "$text")" "-DCHOOSE_TEST=${1#v}" \
         "-I$here/include" "$here"/{b2,choose}.c "$(with_macros "$text")" "$archive" -o "$work/b2_one.exe" &&
         write_script "$work/b2_one" && [ "$(printf abc | "$work/b2_one" sum s256)" = \
             "$(printf abc | python3 -c 'import hashlib, sys
@@ -129,7 +131,7 @@ print(hashlib.blake2s(sys.stdin.buffer.read()).hexdigest())')" ]
 }
 
 # The threads of the library, and what they call of the system.
-threads_for_windows() {
+threads_work_on_windows() {
     "$mingw" -std=gnu99 -O2 "${warnings[@]}" -I"$include" "$tests/system.c" \
         "$prefix/lib/libvulfsjor-threads.a" "$archive" -o "$work/system.exe" && cd "$work" &&
         timeout 60 "$by_wine" "$work/system.exe" "$(nproc)"
@@ -137,7 +139,7 @@ threads_for_windows() {
 
 # The program b2sum, and a folder with names that are not ASCII, bytes that a stream of text would
 # change, and a path that Windows opens by its prefix only.
-build_sums() {
+build_b2sum_and_test_files() {
     local name
     CC=$mingw "$top/b2sum" --build "$work/b2sum.exe" && write_script "$work/b2sum" &&
         mkdir -p "$work/sums/dir" && cd "$work/sums" || return
@@ -147,7 +149,7 @@ build_sums() {
         head -c 64 /dev/urandom >key
 }
 # The lines are those of Linux, also for names with `\`, which become names with `/`.
-sums_of_files() {
+b2sum_lines_match_linux() {
     local name=$'dir/caf\xc3\xa9 \xf0\x9f\x98\x80' long
     cd "$work/sums" && long=$(echo long*/long*/long*/file) && [ ${#long} -gt 300 ] &&
         sums_by_hashlib binary empty "$name" "$long" >../wanted &&
@@ -160,7 +162,7 @@ sums_of_files() {
         diff ../said - <<<"b2sum: 'none*': No such file or directory"
 }
 # What was written on Linux is checked, and a manifest that was written here on Linux.
-sums_are_checked() {
+manifests_are_checked_across_systems() {
     cd "$work/sums" && sums_by_hashlib binary empty dir/* >../SUMS &&
         "$work/b2sum" --check --strict ../SUMS | diff - \
             <(printf '%s: OK\n' binary empty dir/*) &&
@@ -170,7 +172,7 @@ sums_are_checked() {
         diff ../errors - <<<'b2sum: WARNING: 1 computed checksum did NOT match' && : >empty
 }
 # Messages begin with the name of the program, without .exe.
-sums_by_other_names() {
+messages_begin_with_program_name() {
     local name
     cd "$work/sums" && for name in vulfsjor-b2sum.exe 'b s.EXE'; do
         cp ../b2sum.exe "$work/$name" && ! "$by_wine" "$work/$name" none 2>../said &&
@@ -178,7 +180,7 @@ sums_by_other_names() {
     done
 }
 # Entries that are devices and files of other computers are not opened, unless an argument is one.
-entries_are_local() {
+remote_and_device_entries_are_not_opened() {
     local name
     cd "$work/sums" && for name in NUL nul.txt dir/NUL //none/share/file; do
         sums_by_hashlib empty | sed "s|empty|$name|" >../SUMS &&
@@ -190,7 +192,7 @@ entries_are_local() {
         diff - <(echo 'NUL: OK') && diff ../errors - <<<'b2sum: NUL: no properly formatted checksum lines found'
 }
 # Folders, devices, keys, trees by threads, and progress, which nobody sees here.
-sums_of_others() {
+b2sum_handles_devices_keys_trees() {
     cd "$work/sums" && ! "$work/b2sum" dir dir/none NUL >../said 2>../errors &&
         diff ../errors <(printf 'b2sum: %s\n' "dir: Is a directory" \
             "dir/none: No such file or directory") &&
@@ -204,7 +206,7 @@ print(hashlib.blake2b(open("binary", "rb").read(), key=open("key", "rb").read())
         done
 }
 # Lists of folders, by paths of several forms and lengths, and what is none or a device.
-lists_of_folders() {
+b2sum_lists_windows_folders() {
     local long path paths name=$(printf 'n%.0s' {1..255}) folder=$work/lists accented=$'caf\xc3\xa9 \xf0\x9f\x98\x80'
     "$mingw" -municode -O2 "${warnings[@]}" -D{ABSORB_TREE=absorb,PROVED_TREE=proved}.tree -DHIDE_MEMORY=hide.memory \
         -DSHOW_PROGRESS=show.progress -I"$include" "$tests/list_folders.c" "$prefix/lib/libvulfsjor-threads.a" \
@@ -222,12 +224,12 @@ lists_of_folders() {
         tr -d '\r' | LC_ALL=C sort | diff ../wanted -
 }
 # Command lines and manifests next to coreutils.
-sums_next_to_coreutils() {
+b2sum_matches_coreutils_on_windows() {
     python3 "$top/tests/compare_coreutils.py" --by "$by_wine" --every "$1" "$work/b2sum.exe"
 }
 
 # The tests of the crate, from a copy, by a compiler that has the standard library for Windows.
-crate_for_windows() {
+crate_tests_pass_on_windows() {
     local folder=$work/crate target=x86_64-pc-windows-gnu
     mkdir -p "$folder" && cp -r "$top"/{Cargo.toml,rust,dist,tests} "$folder/" &&
         cd "$folder" &&
@@ -245,14 +247,14 @@ crate_for_windows() {
 }
 
 # The Rust compiler that has that standard library, if there is one.
-rustc_for_windows() {
+find_rustc_with_windows_library() {
     local each root library=lib/rustlib/x86_64-pc-windows-gnu/lib
     for each in $(type -ap rustc) /usr/bin/rustc; do
         root=$("$each" --print sysroot 2>/dev/null) && [ -d "$root/$library" ] && readlink -f "$each" && return
     done
 }
 
-test_windows() {
+test_windows_builds() {
     local build hash check
     if ! has "$mingw" || [ -z "$wine$server" ] || ! has python3 || [ "${level:-0}" -lt 3 ]; then
         skip "the library for Windows" "no $mingw, no wine, no python3 or no x86-64-v3"
@@ -265,53 +267,53 @@ test_windows() {
     export CFLAGS=$quick # of the libraries that are made here
     check "install.sh with CC=$mingw" env "CC=$mingw" "$here/install.sh" --from "$dist" "$prefix" ||
         return
-    check "what is installed for Windows" installs
-    check "the DLL" dll_is_right
-    check "the choice between all builds" choose_build "-DCHOOSE_TEST=$(seq -s '' 2 "$level")" both
+    check "what is installed for Windows" installs_for_windows
+    check "the DLL" dll_exports_and_imports_are_right
+    check "the choice between all builds" compile_choice_of_build "-DCHOOSE_TEST=$(seq -s '' 2 "$level")" both
     for hash in "${kinds[@]}"; do
-        check_by_wine "conformance.c, $hash, for Windows" run_hash conformance $hash "$archive"
-        check_huge_by_wine "made_states.c, $hash, for Windows" run_hash made_states $hash "$archive"
+        check_by_wine "conformance.c, $hash, for Windows" compile_and_run_hash_test conformance $hash "$archive"
+        check_huge_by_wine "made_states.c, $hash, for Windows" compile_and_run_hash_test made_states $hash "$archive"
         check=check_huge_by_wine
         [ $hash != blake2b ] || check=check_by_wine
-        $check "conformance.c, $hash, for Windows, with the DLL" run_hash conformance $hash "$shared"
-        $check "conformance.c, $hash, from one build to the others" hash_by_choice $hash both
+        $check "conformance.c, $hash, for Windows, with the DLL" compile_and_run_hash_test conformance $hash "$shared"
+        $check "conformance.c, $hash, from one build to the others" run_hash_with_choice $hash both
     done
     for family in b s; do
-        check_by_wine "edge_cases.c, blake2$family, for Windows" edge_cases
-        check_by_wine "key_scan.c, blake2$family, for Windows" scan_for_keys
-        check_once_by_wine "libb2.c, blake2$family, for Windows" names_of_libb2 $family -I"$libb2" \
+        check_by_wine "edge_cases.c, blake2$family, for Windows" edge_cases_pass
+        check_by_wine "key_scan.c, blake2$family, for Windows" calls_leave_no_keys
+        check_once_by_wine "libb2.c, blake2$family, for Windows" run_libb2_names_test $family -I"$libb2" \
             "$prefix/lib/libvulfsjor-libb2.a"
     done
-    check_by_wine "passed_arguments.py, for Windows, through thunks.h" passes_by_thunks
-    check_by_wine "tree_parts.c, for Windows" parts_with "$(turns 500)" -O2
+    check_by_wine "passed_arguments.py, for Windows, through thunks.h" thunks_pass_arguments
+    check_by_wine "tree_parts.c, for Windows" tree_part_edges_pass "$(random_turn_count 500)" -O2
     for build in $(some $(seq -f v%g 2 "$level")); do
-        check_by_wine "only the build $build for Windows" one_build_for_windows $build
-        check_by_wine "b2.exe with the build $build" program_with_build $build
+        check_by_wine "only the build $build for Windows" one_build_works_on_windows $build
+        check_by_wine "b2.exe with the build $build" b2_works_with_build $build
     done
-    check_by_wine "the build that this processor supports is chosen" chooses_the_build
-    check_huge_by_wine "an older build is chosen if it is asked for" chooses_older
+    check_by_wine "the build that this processor supports is chosen" newest_build_is_chosen
+    check_huge_by_wine "an older build is chosen if it is asked for" older_build_is_chosen
     check_by_wine "b2.exe next to the specification" \
-        program_for_windows "$([ -n "${VULFSJOR_TEST_HUGE-}" ] && echo 40 || echo 10)"
-    check_by_wine "b2.c" functions_of_program
-    check_by_wine "trees by threads on Windows" threads_for_windows
-    if check "b2sum.exe" build_sums; then
-        check_by_wine "b2sum.exe over files" sums_of_files
-        check_by_wine "b2sum.exe by other names" sums_by_other_names
-        check_by_wine "b2sum.exe --check" sums_are_checked
-        check_by_wine "b2sum.exe over folders, devices and with a key" sums_of_others
-        check_by_wine "entries of b2sum.exe that are no files of this computer" entries_are_local
-        check_by_wine "the lists of folders of b2sum.exe" lists_of_folders
-        check_by_wine "b2sum.exe next to coreutils" sums_next_to_coreutils \
+        b2_works_on_windows "$([ -n "${VULFSJOR_TEST_HUGE-}" ] && echo 40 || echo 10)"
+    check_by_wine "b2.c" b2_c_functions_work
+    check_by_wine "trees by threads on Windows" threads_work_on_windows
+    if check "b2sum.exe" build_b2sum_and_test_files; then
+        check_by_wine "b2sum.exe over files" b2sum_lines_match_linux
+        check_by_wine "b2sum.exe by other names" messages_begin_with_program_name
+        check_by_wine "b2sum.exe --check" manifests_are_checked_across_systems
+        check_by_wine "b2sum.exe over folders, devices and with a key" b2sum_handles_devices_keys_trees
+        check_by_wine "entries of b2sum.exe that are no files of this computer" remote_and_device_entries_are_not_opened
+        check_by_wine "the lists of folders of b2sum.exe" b2sum_lists_windows_folders
+        check_by_wine "b2sum.exe next to coreutils" b2sum_matches_coreutils_on_windows \
             "$([ -n "${VULFSJOR_TEST_HUGE-}" ] && echo 1 || echo 120)"
     fi
     needs cmake
-    check_huge_by_wine "a project by CMake for Windows" project_for_windows OFF
-    check_by_wine "a project by CMake for Windows, with a DLL" project_for_windows ON
+    check_huge_by_wine "a project by CMake for Windows" cmake_project_works_for_windows OFF
+    check_by_wine "a project by CMake for Windows, with a DLL" cmake_project_works_for_windows ON
     needs
     check "it is still the same server" "$server" -k0
-    rustc=$(rustc_for_windows)
+    rustc=$(find_rustc_with_windows_library)
     [ -n "$rustc" ] || missing="no standard library of Rust for x86_64-pc-windows-gnu"
-    check_by_wine "the crate for Rust on Windows" crate_for_windows
+    check_by_wine "the crate for Rust on Windows" crate_tests_pass_on_windows
 }
 
-part test_windows cases
+run_part_of_tests test_windows_builds cases

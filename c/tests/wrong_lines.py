@@ -14,7 +14,7 @@ import sys
 WARNINGS = "-Wall -Wextra -Wpedantic -Wconversion -Wsign-conversion -Wshadow -Wno-comment".split()
 
 
-def findings(compiler, options, path):
+def compiler_messages_by_line(compiler, options, path):
     """What the compiler says of each line, with the notes and the lines of headers that follow it; what it says of
     headers by line 0."""
     every = "-ferror-limit=0" if "clang" in compiler[0] else "-fmax-errors=0"
@@ -29,7 +29,7 @@ def findings(compiler, options, path):
     return about
 
 
-def complaint(text, mark, said):
+def mismatch_with_mark(text, mark, said):
     """What is wrong with what is said of a line, or nothing."""
     if not mark:
         return said and "is refused"
@@ -44,7 +44,7 @@ def main():
     options = [f"-std={standard}", f"-I{include}"]
     macros = subprocess.run([*compiler, *options, "-dM", "-E", path], capture_output=True, text=True,
                             check=False).stdout
-    about = findings(compiler, options, path)
+    about = compiler_messages_by_line(compiler, options, path)
     others = about.pop(0, "")  # of headers, where a warning may be of a line that is refused
     print(others)
     wrong, marked = int(": error: " in others), 0
@@ -54,7 +54,7 @@ def main():
             if mark and mark[1] and not re.search(rf" __(cpp_)?{mark[1]}(__)? ", macros):
                 mark = None
             marked += bool(mark)
-            reason = complaint(text, mark and mark[2], about.get(number, ""))
+            reason = mismatch_with_mark(text, mark and mark[2], about.get(number, ""))
             if reason:
                 wrong += 1
                 print(f"{number}: {reason}: {text.strip()}\n{about.get(number, '')}")

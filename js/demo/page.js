@@ -73,7 +73,7 @@ function stopTask(task) {
 
 // ---- Files
 
-const sizeOf = (bytes) => `${number.format(bytes)} byte${bytes === 1 ? "" : "s"}`;
+const describeSize = (bytes) => `${number.format(bytes)} byte${bytes === 1 ? "" : "s"}`;
 
 async function copyText(text, button) {
   try {
@@ -92,7 +92,7 @@ async function copyText(text, button) {
 }
 
 const leafOf = (bytes) =>
-  (bytes % 1024 === 0 ? `${number.format(bytes / 1024)} KiB` : sizeOf(bytes));
+  (bytes % 1024 === 0 ? `${number.format(bytes / 1024)} KiB` : describeSize(bytes));
 
 function rowOf(file, kind) {
   const value = element("code", { textContent: "…" });
@@ -118,7 +118,7 @@ function cardOf(file, count) {
   const card = element("article", { className: "card", tabIndex: -1 },
     element("div", { className: "top" },
       element("div", {}, element("h2", { textContent: file.name }),
-        element("div", { className: "quiet", textContent: sizeOf(file.size) })), button),
+        element("div", { className: "quiet", textContent: describeSize(file.size) })), button),
     bar, state, list);
   $("results").prepend(card);
   return { card, bar, state, button, list };
@@ -208,17 +208,17 @@ function addFiles(files) {
 // ---- The expected digests
 
 // Whether an entry may be about a digest of this kind.
-const isOf = ({ kinds, isAny }, kind) => isAny || kinds.some((other) => isSameKind(kind, other));
+const entryMayHaveKind = ({ kinds, isAny }, kind) => isAny || kinds.some((other) => isSameKind(kind, other));
 
-const isIn = (entry, { digests }) =>
-  digests.some(({ kind, digest }) => digest === entry.digest && isOf(entry, kind));
+const entryHasDigestOf = (entry, { digests }) =>
+  digests.some(({ kind, digest }) => digest === entry.digest && entryMayHaveKind(entry, kind));
 
 // Computes the digests that are expected of a file and that nobody has chosen.
 function requestMissing() {
   const { byName } = indexDigests();
   for (const entry of expected.entries) {
     for (const item of byName(entry)) {
-      if (item.isStopped || isIn(entry, item)) continue;
+      if (item.isStopped || entryHasDigestOf(entry, item)) continue;
       for (const kind of entry.kinds) {
         if (item.digests.some((other) => isSameKind(other.kind, kind))) continue;
         addTask(item, kind, () => {}, compareDigests);
@@ -239,7 +239,7 @@ function indexDigests() {
   return {
     byName: ({ base }) => (base === undefined ? items : names.get(base) ?? []),
     byDigest: (entry) =>
-      (digests.get(entry.digest) ?? []).filter(({ kind }) => isOf(entry, kind)),
+      (digests.get(entry.digest) ?? []).filter(({ kind }) => entryMayHaveKind(entry, kind)),
   };
 }
 
@@ -250,10 +250,10 @@ function judgeEntry(entry, { byName, byDigest }) {
   const named = byName(entry);
   const namesakes = () => expected.entries.filter((other) =>
     other.base === entry.base && other.name !== entry.name &&
-    other.kinds.some((kind) => isOf(entry, kind)));
-  const left = named.filter((item) => !namesakes().some((other) => isIn(other, item)));
+    other.kinds.some((kind) => entryMayHaveKind(entry, kind)));
+  const left = named.filter((item) => !namesakes().some((other) => entryHasDigestOf(other, item)));
   const states = left.flatMap(({ digests, isStopped }) => {
-    const own = digests.filter(({ kind }) => isOf(entry, kind));
+    const own = digests.filter(({ kind }) => entryMayHaveKind(entry, kind));
     if (own.length === 0 && !isStopped) return ["open"]; // it is requested after a pause
     return own.map((each) => each.state);
   });
@@ -268,7 +268,7 @@ const showVerdict = (text, name) => Object.assign($("verdict"), { textContent: t
 const plural = (count, word) => `${number.format(count)} ${word}${count === 1 ? "" : "s"}`;
 
 // The verdict on one digest, of whatever file.
-function sayOne({ state, equal }) {
+function showDigestVerdict({ state, equal }) {
   const count = items.flatMap(({ digests }) => digests).filter(({ digest }) => digest).length;
   if (equal.length > 0) {
     const which = equal.map(({ kind, item }) => `${nameOf(kind)} of ${item.file.name}`);
@@ -286,7 +286,7 @@ const STATES = [
 ];
 
 // The verdict on a manifest, and what is wrong with each of its files before all that is right.
-function sayAll(judged) {
+function showManifestVerdict(judged) {
   const ranked = STATES.map(([state, name]) =>
     [state, name, judged.filter((one) => one.state === state)]);
   const counts = ranked.filter(([, , list]) => list.length > 0)
@@ -318,8 +318,8 @@ function compareDigests() {
   else if (judged.length === 0) {
     showVerdict(
       `This is not a digest of 128 to 512 bits in hexadecimal (${text.length} characters).`, "bad");
-  } else if (judged.length === 1 && expected.wrong === 0) sayOne(judged[0]);
-  else sayAll(judged);
+  } else if (judged.length === 1 && expected.wrong === 0) showDigestVerdict(judged[0]);
+  else showManifestVerdict(judged);
 }
 
 let pause;

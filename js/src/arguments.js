@@ -43,7 +43,7 @@ function isBuffer(value) {
 // The same memory as a Uint8Array. Throws if the memory is gone (detached, or a view past the end
 // of a buffer that has shrunk). A Uint8Array is returned as it is: V8 keeps up to 64 bytes inside
 // the object, and reading its buffer moves them elsewhere and leaves a copy.
-function viewOf(value) {
+function viewAsUint8Array(value) {
   if (!ArrayBuffer.isView(value)) return new Uint8Array(value);
   const name = nameOfTyped(value);
   const of = name === undefined ? ofDataView : ofTyped;
@@ -64,7 +64,7 @@ export function copyOf(bytes) {
 }
 
 /** A part of what bytesOf returns, as a view. */
-export function partOf(bytes, begin, length) {
+export function subarrayOf(bytes, begin, length) {
   return new Uint8Array(ofTyped.buffer(bytes), ofTyped.byteOffset(bytes) + begin, length);
 }
 
@@ -81,7 +81,7 @@ function isPlain(value) {
 }
 
 /** What a value is, for an error message. */
-export function kindOf(value) {
+export function describeValue(value) {
   if (value === null || value === undefined) return String(value);
   if (Array.isArray(value)) return "an array";
   if (typeof value !== "object") return `a ${typeof value}`;
@@ -96,23 +96,23 @@ export const isBytes = (value) => ArrayBuffer.isView(value) || isBuffer(value);
  * Whether a value is a Uint8Array that is not empty, as most are. Nothing else has this name, and
  * memory that is gone has no length.
  */
-export const isPlainBytes = (value) => nameOfTyped(value) === "Uint8Array" && lengthOf(value) > 0;
+export const isFilledUint8Array = (value) => nameOfTyped(value) === "Uint8Array" && lengthOf(value) > 0;
 
 /**
  * The bytes of a message, key, salt or tag: a Uint8Array over the caller's own memory. It may be an
- * instance of a subclass, so only lengthOf, partOf, copyOf and set() of another array read it.
+ * instance of a subclass, so only lengthOf, subarrayOf, copyOf and set() of another array read it.
  */
 export function bytesOf(value, caller, what) {
-  if (isPlainBytes(value)) return value;
+  if (isFilledUint8Array(value)) return value;
   if (!isBytes(value)) {
     const hint = typeof value === "string" ? " (utf8() encodes a string)" : "";
     throw new TypeError(
       `${caller}: ${what} must be a Uint8Array, another view or an ArrayBuffer, ` +
-        `not ${kindOf(value)}${hint}`,
+        `not ${describeValue(value)}${hint}`,
     );
   }
   try {
-    return viewOf(value);
+    return viewAsUint8Array(value);
   } catch {
     throw new TypeError(`${caller}: the memory of ${what} is detached or has shrunk`);
   }
@@ -124,11 +124,11 @@ const iteratorOfArrays = Array.prototype[Symbol.iterator];
  * The values of an iterable as an array, each mapped if there is a function for that. An iterable
  * may run code of the caller, so check the values after all lists of a call are taken.
  */
-export function take(values, caller, what, of, each) {
+export function toArray(values, caller, what, of, each) {
   const isIterable = typeof values?.[Symbol.iterator] === "function";
   if (!isIterable || typeof values === "string" || ArrayBuffer.isView(values)) {
     throw new TypeError(
-      `${caller}: ${what} must be an iterable of ${of}, not ${kindOf(values)}` +
+      `${caller}: ${what} must be an iterable of ${of}, not ${describeValue(values)}` +
         (of === "bytes" && isBytes(values) ? `; several ${what} are expected, not one` : ""),
     );
   }
@@ -140,14 +140,14 @@ export function take(values, caller, what, of, each) {
  * Any other iterable may yield one buffer that it fills again and again, so each is copied before
  * the next is asked for.
  */
-export function takeBytes(values, caller, what) {
+export function toArrayOfBytes(values, caller, what) {
   const isArray = Array.isArray(values) && values[Symbol.iterator] === iteratorOfArrays;
   const copy = (value, i) => copyOf(bytesOf(value, caller, `${what} ${i}`));
-  return take(values, caller, `${what}s`, "bytes", isArray ? undefined : copy);
+  return toArray(values, caller, `${what}s`, "bytes", isArray ? undefined : copy);
 }
 
 // What bytesOf returns, with a length between the bounds; empty if the value is undefined.
-function shortBytesOf(value, caller, what, least, most) {
+function boundedBytesOf(value, caller, what, least, most) {
   if (value === undefined) return EMPTY;
   const bytes = bytesOf(value, caller, what);
   const length = lengthOf(bytes);
@@ -161,7 +161,7 @@ function shortBytesOf(value, caller, what, least, most) {
 export function integerOf(value, caller, what, least, most, otherwise) {
   if (value === undefined) return otherwise;
   if (typeof value !== "number") {
-    throw new TypeError(`${caller}: ${what} must be a number, not ${kindOf(value)}`);
+    throw new TypeError(`${caller}: ${what} must be a number, not ${describeValue(value)}`);
   }
   if (!Number.isInteger(value) || value < least || value > most) {
     throw new RangeError(
@@ -175,7 +175,7 @@ export function integerOf(value, caller, what, least, most, otherwise) {
 export function offsetOf(value, caller, what, most) {
   if (value === undefined) return 0n;
   if (typeof value !== "number" && typeof value !== "bigint") {
-    throw new TypeError(`${caller}: ${what} must be a number or a bigint, not ${kindOf(value)}`);
+    throw new TypeError(`${caller}: ${what} must be a number or a bigint, not ${describeValue(value)}`);
   }
   const isWhole = typeof value === "bigint" || Number.isSafeInteger(value);
   if (!isWhole || value < 0 || value > most) {
@@ -190,14 +190,14 @@ export function offsetOf(value, caller, what, most) {
 /** A boolean; false if the value is undefined. */
 export function flagOf(value, caller, what) {
   if (value !== undefined && typeof value !== "boolean") {
-    throw new TypeError(`${caller}: ${what} must be a boolean, not ${kindOf(value)}`);
+    throw new TypeError(`${caller}: ${what} must be a boolean, not ${describeValue(value)}`);
   }
   return value === true;
 }
 
 // The options that a call has read, undefined if they are not given. All have their places, so that
 // reading them is fast.
-class Read {
+class OptionValues {
   digestLength; key; salt; personalization; tree; outputLength; leafLength;
   first; ends; onProgress; signal; threads; onFallback;
   fanout; depth; nodeOffset; nodeDepth; innerLength; lastNode;
@@ -210,15 +210,15 @@ class Read {
  * under a missing setting anybody could make the tags. Symbols are ignored: they are no misspelled
  * names, libraries mark objects with them, and a MAC of 64 bytes would take 8% longer to list them.
  */
-function optionsOf(options, caller, what, known) {
-  const read = new Read();
+function readKnownOptions(options, caller, what, known) {
+  const read = new OptionValues();
   if (options === undefined) return read;
   // a promise, a map or bytes have no property of an option, and would pass for none given
   if (!isPlain(options)) {
-    throw new TypeError(`${caller}: ${what} must be a plain object, not ${kindOf(options)}`);
+    throw new TypeError(`${caller}: ${what} must be a plain object, not ${describeValue(options)}`);
   }
   for (const name of Object.getOwnPropertyNames(options)) {
-    if (!known.includes(name)) refuseUnknown(name, caller, what, known);
+    if (!known.includes(name)) refuseUnknownOption(name, caller, what, known);
     read[name] = options[name];
     if (name === "key" && read.key === undefined) {
       throw new TypeError(
@@ -229,7 +229,7 @@ function optionsOf(options, caller, what, known) {
   return read;
 }
 
-function refuseUnknown(name, caller, what, known) {
+function refuseUnknownOption(name, caller, what, known) {
   throw new TypeError(
     `${caller}: unknown property ${JSON.stringify(name)} of ${what}; ` +
       `known are ${known.join(", ")}`,
@@ -240,9 +240,9 @@ const POSITION = [
   "fanout", "depth", "leafLength", "nodeOffset", "nodeDepth", "innerLength", "lastNode",
 ];
 
-function positionOf(tree, kind, caller) {
+function treePositionOf(tree, kind, caller) {
   if (tree === undefined) return undefined;
-  const given = optionsOf(tree, caller, "tree", POSITION);
+  const given = readKnownOptions(tree, caller, "tree", POSITION);
   return {
     fanout: integerOf(given.fanout, caller, "tree.fanout", 0, 255, 1),
     depth: integerOf(given.depth, caller, "tree.depth", 1, 255, 1),
@@ -264,7 +264,7 @@ export const OPTIONS = Object.freeze({
 });
 
 /** The settings of a hash without options. */
-export const plainSettings = (digestLength) => Object.freeze({
+export const settingsWithoutOptions = (digestLength) => Object.freeze({
   digestLength, key: EMPTY, salt: EMPTY, personalization: EMPTY, tree: undefined,
   leafLength: undefined, node: undefined, isPlain: true,
 });
@@ -277,25 +277,25 @@ export const plainSettings = (digestLength) => Object.freeze({
  */
 export function settingsOf(kind, options, caller) {
   if (options === undefined && kind.plain !== undefined) return kind.plain;
-  return checkedSettings(kind, optionsOf(options, caller, "options", OPTIONS[kind.options]), caller);
+  return checkedSettings(kind, readKnownOptions(options, caller, "options", OPTIONS[kind.options]), caller);
 }
 
 /** The same, and all options as they were read. known has the names of the call's options. */
 export function readSettings(kind, options, caller, known = OPTIONS[kind.options]) {
-  const read = optionsOf(options, caller, "options", known);
+  const read = readKnownOptions(options, caller, "options", known);
   return [checkedSettings(kind, read, caller), read];
 }
 
 /** The checked settings from options that were read, again if code of the caller ran in between. */
 export function checkedSettings(kind, read, caller) {
-  const tree = positionOf(read.tree, kind, caller); // which may have getters
+  const tree = treePositionOf(read.tree, kind, caller); // which may have getters
   const most = kind.digestLength;
   const shorter = kind.saltLength;
   const digestLength = integerOf(read.digestLength, caller, "digestLength", 1, most, most);
-  const key = shortBytesOf(read.key, caller, "key", 1, kind.keyLength);
-  const salt = shortBytesOf(read.salt, caller, "salt", 0, shorter);
+  const key = boundedBytesOf(read.key, caller, "key", 1, kind.keyLength);
+  const salt = boundedBytesOf(read.salt, caller, "salt", 0, shorter);
   const personalization =
-    shortBytesOf(read.personalization, caller, "personalization", 0, shorter);
+    boundedBytesOf(read.personalization, caller, "personalization", 0, shorter);
   let { leafLength } = read;
   if (kind.isTree) {
     if (leafLength === undefined) throw new TypeError(`${caller}: leafLength must be given`);
@@ -309,12 +309,12 @@ export function checkedSettings(kind, read, caller) {
 }
 
 /** Refuses a method that was called without its object, as after `const { update } = hash`. */
-export function refuseDetached(call, what) {
+export function refuseCallWithoutObject(call, what) {
   throw new TypeError(`${call}: called without its ${what}; use it as ${what}.${call}`);
 }
 
 /** Refuses this many further arguments: others accept a key, a length or an encoding there. */
-export function refuseMore(more, caller, count, hint = "key, length and so on are options") {
+export function refuseExtraArguments(more, caller, count, hint = "key, length and so on are options") {
   if (more <= 0) return;
   throw new TypeError(
     `${caller}: too many arguments, ${count + more} instead of at most ${count}; ${hint}`,

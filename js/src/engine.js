@@ -8,7 +8,7 @@
 // A program uses up to three modules: BLAKE2b and BLAKE2s of one message have small ones, so that a
 // bundle has only what its program calls. Each has a memory.
 
-import { lengthOf, partOf, plainSettings } from "./arguments.js";
+import { lengthOf, subarrayOf, settingsWithoutOptions } from "./arguments.js";
 
 // How many bytes of the stack a call may write: of BLAKE2b or BLAKE2s for one message, and others.
 const SHALLOW = 3072;
@@ -41,7 +41,7 @@ export class Kind {
     this.options = numbers.options ?? "basic";
     this.isTree = this.options === "tree";
     const isOutput = this.options === "output";
-    this.plain = this.isTree || isOutput ? undefined : plainSettings(this.digestLength);
+    this.plain = this.isTree || isOutput ? undefined : settingsWithoutOptions(this.digestLength);
     this.room = isOutput ? 0 : WAITING;
     this.certainBelow = 2 ** 53;
     Object.freeze(this);
@@ -109,7 +109,7 @@ const newTable = () => Object.create(null);
 
 // A number as the library's argument. Those of short messages are made once.
 const kept = /* @__PURE__ */ newTable();
-const big = (number) => (number > WAITING ? BigInt(number) : (kept[number] ??= BigInt(number)));
+const toBigInt = (number) => (number > WAITING ? BigInt(number) : (kept[number] ??= BigInt(number)));
 
 // A hash in an engine: its functions, and its places in the memory.
 class Hash {
@@ -162,7 +162,7 @@ class Engine {
   }
 
   /** A function of trees. */
-  ofTrees(call) {
+  treeFunction(call) {
     return this.exports[`vulfsjor_ffi_tree_${call}`];
   }
 
@@ -170,7 +170,7 @@ class Engine {
   put(bytes, place) {
     const length = lengthOf(bytes);
     if (length > 0) this.bytes.set(bytes, this.base + place);
-    return big(length);
+    return toBigInt(length);
   }
 
   read(place, length) {
@@ -184,7 +184,7 @@ class Engine {
   }
 
   /** Copies salt and personalization, and returns them as the library's arguments. */
-  putLabels({ salt, personalization }) {
+  putSaltAndPersonalization({ salt, personalization }) {
     return [
       this.at.salt, this.put(salt, SALT),
       this.at.personalization, this.put(personalization, PERSONALIZATION),
@@ -203,30 +203,30 @@ class Engine {
     const { digestLength, salt, personalization, tree } = settings;
     const { at } = this;
     const hash = this.hash(kind);
-    const size = big(digestLength);
+    const size = toBigInt(digestLength);
     if (settings.node !== undefined || kind.isTree) return this.#beginTree(kind, settings);
     const key = this.put(settings.key, KEY);
     const salted = this.put(salt, SALT);
     const personal = this.put(personalization, PERSONALIZATION);
     if (tree === undefined) {
-      granted(hash.initSaltPersonal(
+      assertAccepted(hash.initSaltPersonal(
         at.state, size, at.key, key, at.salt, salted, at.personalization, personal));
       return;
     }
     this.putNode(tree);
-    granted(hash.initTree(
+    assertAccepted(hash.initTree(
       at.state, size, at.key, key, at.salt, salted, at.personalization, personal, at.node));
-    if (tree.lastNode) granted(hash.setLastNode(at.state, 1));
+    if (tree.lastNode) assertAccepted(hash.setLastNode(at.state, 1));
   }
 
   #beginTree(kind, settings) {
     const { digestLength, leafLength, node } = settings;
     const { state } = this.at;
-    const size = big(digestLength);
-    const words = [...this.putLabels(settings), leafLength];
-    if (node === undefined) granted(this.hash(kind).init(state, size, ...words));
-    else if (node === "root") granted(this.ofTrees("init_root")(state, size, ...words));
-    else granted(this.ofTrees("init_leaf")(state, node.first, node.ends ? 1 : 0, ...words));
+    const size = toBigInt(digestLength);
+    const words = [...this.putSaltAndPersonalization(settings), leafLength];
+    if (node === undefined) assertAccepted(this.hash(kind).init(state, size, ...words));
+    else if (node === "root") assertAccepted(this.treeFunction("init_root")(state, size, ...words));
+    else assertAccepted(this.treeFunction("init_leaf")(state, node.first, node.ends ? 1 : 0, ...words));
   }
 
   /**
@@ -240,12 +240,12 @@ class Engine {
     const length = lengthOf(message);
     if (waiting + length <= piece) {
       this.bytes.set(message, window + waiting);
-      return hash.update(this.at.state, atWindow, big(waiting + length)) === 0;
+      return hash.update(this.at.state, atWindow, toBigInt(waiting + length)) === 0;
     }
     for (let at = 0, begin = waiting; at < length; begin = 0) {
       const size = Math.min(piece - begin, length - at);
-      this.bytes.set(partOf(message, at, size), window + begin);
-      if (hash.update(this.at.state, atWindow, big(begin + size)) !== 0) return false;
+      this.bytes.set(subarrayOf(message, at, size), window + begin);
+      if (hash.update(this.at.state, atWindow, toBigInt(begin + size)) !== 0) return false;
       at += size;
     }
     return true;
@@ -253,26 +253,26 @@ class Engine {
 
   /** Finalizes the state in the slot, and leaves the digest at OUT. */
   end(kind, digestLength) {
-    granted(this.hash(kind).final(this.at.state, this.at.out, big(digestLength)));
+    assertAccepted(this.hash(kind).final(this.at.state, this.at.out, toBigInt(digestLength)));
   }
 
   /**
    * Sets to zero what a call has written: the bytes of the stack that it may have used, the short
    * arguments and the slot, and the used bytes of the window.
    */
-  clean(kind, used) {
+  wipeAfterCall(kind, used) {
     const most = kind.isTree ? WINDOW_LENGTH : PIECE;
     this.bytes.fill(0, this.base - kind.stackLength, this.hash(kind).window + Math.min(used, most));
   }
 
   /** The same after a call that used this many bytes from MESSAGES on. */
-  cleanAll(used) {
+  wipeFromMessages(used) {
     this.bytes.fill(0, this.base - DEEP, this.base + MESSAGES + used);
   }
 }
 
 /** A refusal here is a bug of this package: the caller's arguments have been checked. */
-export function granted(status) {
+export function assertAccepted(status) {
   if (status !== 0) throw new Error("vulfsjor: the library refused a call");
 }
 
@@ -307,7 +307,7 @@ export function compile(module, given) {
 export function withEngine(work, kind, a, b, c, d) {
   const { module } = kind;
   if (module.current === undefined || module.current.isBusy) {
-    drop(module);
+    dropEngine(module);
     module.current = new Engine(compile(module));
   }
   const engine = module.current;
@@ -317,11 +317,11 @@ export function withEngine(work, kind, a, b, c, d) {
     engine.isBusy = false;
     return result;
   } finally {
-    if (engine.isBusy) drop(module);
+    if (engine.isBusy) dropEngine(module);
   }
 }
 
-function drop(module) {
+function dropEngine(module) {
   if (module.current === undefined) return;
   module.current.bytes.fill(0);
   module.current = undefined;
@@ -367,7 +367,7 @@ function beginIn(engine, kind, settings) {
   engine.begin(kind, settings);
   const state = newState(kind);
   state.set(engine.hash(kind).slot);
-  engine.clean(kind, 0);
+  engine.wipeAfterCall(kind, 0);
   return state;
 }
 
@@ -385,26 +385,26 @@ function updateIn(engine, kind, state, waiting, message) {
     state.set(engine.hash(kind).slot);
     if (waiting > 0) state.fill(0, kind.stateLength);
   }
-  engine.clean(kind, waiting + lengthOf(message));
+  engine.wipeAfterCall(kind, waiting + lengthOf(message));
   return isAbsorbed;
 }
 
 /** Whether a state after which nothing waits would absorb a message. It stays as it is. */
-export const accepts = (kind, state, message) => withEngine(acceptsIn, kind, state, message);
+export const canAbsorb = (kind, state, message) => withEngine(canAbsorbIn, kind, state, message);
 
-function acceptsIn(engine, kind, state, message) {
+function canAbsorbIn(engine, kind, state, message) {
   engine.bytes.set(state, engine.base + STATE);
   const isAccepted = engine.updateFromWindow(kind, 0, message);
-  engine.clean(kind, lengthOf(message));
+  engine.wipeAfterCall(kind, lengthOf(message));
   return isAccepted;
 }
 
 // Puts a state into the slot, and absorbs what waits after it.
-function putWhole(engine, kind, state, waiting) {
+function putStateAndAbsorbWaiting(engine, kind, state, waiting) {
   engine.bytes.set(state, engine.base + STATE);
   if (waiting === 0) return;
   const hash = engine.hash(kind);
-  granted(hash.update(engine.at.state, hash.atWindow, big(waiting)));
+  assertAccepted(hash.update(engine.at.state, hash.atWindow, toBigInt(waiting)));
 }
 
 /** The digest of a state, which is then set to zero. */
@@ -412,11 +412,11 @@ export const final = (kind, state, waiting, digestLength) =>
   withEngine(finalIn, kind, state, waiting, digestLength);
 
 function finalIn(engine, kind, state, waiting, digestLength) {
-  putWhole(engine, kind, state, waiting);
+  putStateAndAbsorbWaiting(engine, kind, state, waiting);
   engine.end(kind, digestLength);
   const digest = engine.digest(digestLength);
   state.fill(0);
-  engine.clean(kind, waiting);
+  engine.wipeAfterCall(kind, waiting);
   return digest;
 }
 
@@ -425,7 +425,7 @@ export const verify = (kind, state, waiting, digestLength, tag) =>
   withEngine(verifyIn, kind, state, waiting, digestLength, tag);
 
 function verifyIn(engine, kind, state, waiting, digestLength, tag) {
-  putWhole(engine, kind, state, waiting);
+  putStateAndAbsorbWaiting(engine, kind, state, waiting);
   // a tag of another length is wrong, and the state is finalized all the same
   const length = lengthOf(tag) === digestLength ? engine.put(tag, TAG) : 0n;
   let status;
@@ -436,7 +436,7 @@ function verifyIn(engine, kind, state, waiting, digestLength, tag) {
     status = engine.hash(kind).verify(engine.at.state, engine.at.tag, length);
   }
   state.fill(0);
-  engine.clean(kind, waiting);
+  engine.wipeAfterCall(kind, waiting);
   return status === 0;
 }
 
@@ -451,12 +451,12 @@ function squeezeIn(engine, kind, state, length) {
     output = new Uint8Array(length);
     for (let at = 0; at < length; at += PIECE) {
       const size = Math.min(PIECE, length - at);
-      granted(hash.squeeze(engine.at.state, hash.atWindow, big(size)));
+      assertAccepted(hash.squeeze(engine.at.state, hash.atWindow, toBigInt(size)));
       output.set(engine.bytes.subarray(hash.window, hash.window + size), at);
     }
     state.set(hash.slot);
   }
-  engine.clean(kind, length);
+  engine.wipeAfterCall(kind, length);
   return output;
 }
 
@@ -466,7 +466,7 @@ export const left = (kind, state) => withEngine(leftIn, kind, state);
 function leftIn(engine, kind, state) {
   engine.bytes.set(state, engine.base + STATE);
   const count = engine.hash(kind).left(engine.at.state);
-  engine.clean(kind, 0);
+  engine.wipeAfterCall(kind, 0);
   return count;
 }
 
@@ -476,10 +476,10 @@ export const reset = (kind, state) => withEngine(resetIn, kind, state);
 function resetIn(engine, kind, state) {
   const hash = engine.hash(kind);
   engine.bytes.set(state, engine.base + STATE);
-  granted(hash.reset(engine.at.state));
+  assertAccepted(hash.reset(engine.at.state));
   state.fill(0);
   state.set(hash.slot);
-  engine.clean(kind, kind.room);
+  engine.wipeAfterCall(kind, kind.room);
 }
 
 /** A state without a key, with what waits after it, as bytes of the kind's savedLength. */
@@ -487,11 +487,11 @@ export const save = (kind, state, waiting) => withEngine(saveIn, kind, state, wa
 
 function saveIn(engine, kind, state, waiting) {
   const { savedLength } = kind;
-  putWhole(engine, kind, state, waiting);
+  putStateAndAbsorbWaiting(engine, kind, state, waiting);
   const { window, atWindow, save: write } = engine.hash(kind);
-  granted(write(engine.at.state, atWindow, big(savedLength)));
+  assertAccepted(write(engine.at.state, atWindow, toBigInt(savedLength)));
   const saved = engine.bytes.slice(window, window + savedLength);
-  engine.clean(kind, Math.max(waiting, savedLength));
+  engine.wipeAfterCall(kind, Math.max(waiting, savedLength));
   return saved;
 }
 
@@ -502,9 +502,9 @@ function loadIn(engine, kind, saved) {
   const { atWindow, load: read, slot, window } = engine.hash(kind);
   const state = newState(kind);
   engine.bytes.set(saved, window);
-  const status = read(engine.at.state, atWindow, big(kind.savedLength));
+  const status = read(engine.at.state, atWindow, toBigInt(kind.savedLength));
   state.set(slot);
-  engine.clean(kind, kind.savedLength);
+  engine.wipeAfterCall(kind, kind.savedLength);
   return status === 0 ? state : undefined;
 }
 
@@ -518,15 +518,15 @@ function hashIn(engine, kind, message, settings) {
   if (isPlain && length <= PIECE) {
     const { one, window, atWindow } = engine.hash(kind);
     engine.bytes.set(message, window);
-    granted(one(
-      at.out, big(digestLength), atWindow, big(length), at.key, engine.put(key, KEY)));
+    assertAccepted(one(
+      at.out, toBigInt(digestLength), atWindow, toBigInt(length), at.key, engine.put(key, KEY)));
   } else {
     engine.begin(kind, settings);
     if (!engine.updateFromWindow(kind, 0, message)) throw new Error("vulfsjor: the message is too long");
     engine.end(kind, digestLength);
   }
   const digest = engine.digest(digestLength);
-  engine.clean(kind, length);
+  engine.wipeAfterCall(kind, length);
   return digest;
 }
 
@@ -543,10 +543,10 @@ function isSameIn(engine, kind, a, b, length) {
   for (let at = 0; at < length; at += most) {
     const isWhole = most === length;
     const size = Math.min(most, length - at);
-    const count = engine.put(isWhole ? a : partOf(a, at, size), MESSAGES);
-    engine.put(isWhole ? b : partOf(b, at, size), MESSAGES + most);
+    const count = engine.put(isWhole ? a : subarrayOf(a, at, size), MESSAGES);
+    engine.put(isWhole ? b : subarrayOf(b, at, size), MESSAGES + most);
     difference |= engine.compare(engine.at.messages, count, second, count);
   }
-  engine.cleanAll(2 * most);
+  engine.wipeFromMessages(2 * most);
   return difference === 0;
 }

@@ -2,8 +2,8 @@
 // holds it only during a call. Short updates only append to the bytes that wait after it.
 
 import {
-  OPTIONS, bytesOf, copyOf, flagOf, isPlainBytes, kindOf, lengthOf, readSettings, refuseDetached,
-  refuseMore, settingsOf, take, takeBytes,
+  OPTIONS, bytesOf, copyOf, flagOf, isFilledUint8Array, describeValue, lengthOf, readSettings, refuseCallWithoutObject,
+  refuseExtraArguments, settingsOf, toArray, toArrayOfBytes,
 } from "./arguments.js";
 import * as engine from "./engine.js";
 import { hex } from "./hex.js";
@@ -50,13 +50,13 @@ export const updateMany = (kind, name, hashes, pieces, more) =>
 export const isHasher = (value) => ofPipes.is(value);
 
 /** Refuses a hash with a pipe that has not ended: its digest would be that of a part. */
-export const refusePiped = (hasher, caller) => ofPipes.refuse(hasher, caller);
+export const refuseIfPiped = (hasher, caller) => ofPipes.refuse(hasher, caller);
 
 /** Refuses a hash that has ended. */
-export const refuseEnded = (hasher, caller) => ofPipes.refuseEnded(hasher, caller);
+export const refuseIfEnded = (hasher, caller) => ofPipes.refuseIfEnded(hasher, caller);
 
 /** What node's stream.pipe() calls first, whose own error for what has no such method says nothing. */
-export function refusePipe() {
+export function refuseNodePipe() {
   throw new TypeError(
     "stream.pipe() needs a stream of node: use pipeline(stream, hashWritable(hash)) of node:stream, " +
       "or blake2bStream(stream) and its like",
@@ -82,14 +82,14 @@ export class Hasher {
   constructor(kind, name, options, more) {
     this.#kind = kind;
     this.#name = name;
-    if (options !== COPY) this.#begin(options, more);
+    if (options !== COPY) this.#initialize(options, more);
   }
 
-  #begin(options, more) {
+  #initialize(options, more) {
     const kind = this.#kind;
     const caller = `new ${this.#name}`;
-    refuseMore(more, caller, 1);
-    const settings = this.#read(options, caller);
+    refuseExtraArguments(more, caller, 1);
+    const settings = this.#readSettings(options, caller);
     this.#digestLength = settings.digestLength;
     if (kind.isTree) {
       const salt = copyOf(settings.salt);
@@ -98,11 +98,11 @@ export class Hasher {
     }
     this.#state = engine.begin(kind, settings);
     this.#isKeyed = lengthOf(settings.key) > 0;
-    this.#watch();
+    this.#wipeWhenCollected();
   }
 
   // The settings of the hash, and the option that only verify needs.
-  #read(options, caller) {
+  #readSettings(options, caller) {
     const kind = this.#kind;
     if (options === undefined || kind.isTree) return settingsOf(kind, options, caller);
     const known = [...OPTIONS[kind.options], "allowShort"];
@@ -111,7 +111,7 @@ export class Hasher {
     return settings;
   }
 
-  #watch() {
+  #wipeWhenCollected() {
     if (this.#isKeyed) collected.register(this, this.#state);
   }
 
@@ -122,7 +122,7 @@ export class Hasher {
       throw new TypeError(`${caller}: a pipe into this hash has not ended; wait for it first`);
     };
     ofPipes.set = (hasher, isPiped) => { hasher.#isPiped = isPiped; };
-    ofPipes.refuseEnded = (hasher, caller) => {
+    ofPipes.refuseIfEnded = (hasher, caller) => {
       if (hasher.#hasEnded) throw new TypeError(`${caller}: this hash has ended${ENDED_BY}`);
     };
     // Called later: esbuild 0.17 cannot read a private method in a static block.
@@ -132,21 +132,21 @@ export class Hasher {
   }
 
   static #save(kind, hasher, more) {
-    if (!isHasher(hasher) || hasher.#kind !== kind) refuseDetached("save", "hash");
-    Hasher.#check(hasher, "save", more, 0);
-    const state = hasher.#own("save");
+    if (!isHasher(hasher) || hasher.#kind !== kind) refuseCallWithoutObject("save", "hash");
+    Hasher.#checkObjectAndArguments(hasher, "save", more, 0);
+    const state = hasher.#stateUnlessEndedOrPiped("save");
     if (hasher.#isKeyed) {
       throw new TypeError(
-        `${hasher.#caller("save")}: this hash has a key, which the bytes would be as good as`,
+        `${hasher.#callName("save")}: this hash has a key, which the bytes would be as good as`,
       );
     }
     return engine.save(kind, state, hasher.#waiting);
   }
 
   static #load(kind, name, isOne, called, saved, more) {
-    if (!isOne) refuseDetached("load", name);
+    if (!isOne) refuseCallWithoutObject("load", name);
     const caller = `${name}.load`;
-    refuseMore(more, caller, 1, "a hash has no options then");
+    refuseExtraArguments(more, caller, 1, "a hash has no options then");
     const given = bytesOf(saved, caller, "saved");
     const bytes = lengthOf(given) === kind.savedLength ? copyOf(given) : undefined;
     const state = bytes && engine.loadState(kind, bytes);
@@ -162,24 +162,24 @@ export class Hasher {
   // One after another: what hashes them in lanes would more than double the module in each bundle.
   static #updateMany(kind, name, hashes, pieces, more) {
     const caller = `${name}.updateMany`;
-    refuseMore(more, caller, 2, "a hash has its options already");
-    const all = take(hashes, caller, "hashes", name);
-    const given = takeBytes(pieces, caller, "piece");
+    refuseExtraArguments(more, caller, 2, "a hash has its options already");
+    const all = toArray(hashes, caller, "hashes", name);
+    const given = toArrayOfBytes(pieces, caller, "piece");
     if (given.length !== all.length) {
       throw new RangeError(
         `${caller}: there must be a piece for each hash, not ${given.length} for ${all.length}`,
       );
     }
     const bytes = given.map((piece, i) =>
-      isPlainBytes(piece) ? piece : bytesOf(piece, caller, `piece ${i}`));
+      isFilledUint8Array(piece) ? piece : bytesOf(piece, caller, `piece ${i}`));
     all.forEach((hasher, i) => {
       if (!isHasher(hasher) || hasher.#kind !== kind) {
-        throw new TypeError(`${caller}: hash ${i} must be a ${name}, not ${kindOf(hasher)}`);
+        throw new TypeError(`${caller}: hash ${i} must be a ${name}, not ${describeValue(hasher)}`);
       }
-      if (hasher.#hasEnded) refuseEnded(hasher, `${caller}: hash ${i}`);
-      if (hasher.#isPiped) refusePiped(hasher, `${caller}: hash ${i}`);
+      if (hasher.#hasEnded) refuseIfEnded(hasher, `${caller}: hash ${i}`);
+      if (hasher.#isPiped) refuseIfPiped(hasher, `${caller}: hash ${i}`);
       // from certainBelow on nothing waits, and only the library knows
-      if (hasher.#count >= kind.certainBelow && !engine.accepts(kind, hasher.#state, bytes[i])) {
+      if (hasher.#count >= kind.certainBelow && !engine.canAbsorb(kind, hasher.#state, bytes[i])) {
         throw new RangeError(`${caller}: hash ${i}: the message is too long`);
       }
     });
@@ -189,7 +189,7 @@ export class Hasher {
       hasher.#hasEnded = true; // if the call throws
     });
     if (twice === undefined) {
-      all.forEach((hasher, i) => engine.granted(Hasher.#absorb(hasher, bytes[i]) ? 0 : -1));
+      all.forEach((hasher, i) => engine.assertAccepted(Hasher.#absorb(hasher, bytes[i]) ? 0 : -1));
     }
     for (const hasher of all) hasher.#hasEnded = false;
     if (twice !== undefined) throw new RangeError(`${caller}: hash ${twice} is there twice`);
@@ -197,55 +197,55 @@ export class Hasher {
 
   // Refuses a call without its hash, which may be any value, and arguments beyond the last. Calls
   // count theirs, so that no array of those beyond the last is made.
-  static #check(hasher, call, more, most, hint) {
-    if (!isHasher(hasher)) refuseDetached(call, "hash");
-    if (more > 0) refuseMore(more, hasher.#caller(call), most, hint);
+  static #checkObjectAndArguments(hasher, call, more, most, hint) {
+    if (!isHasher(hasher)) refuseCallWithoutObject(call, "hash");
+    if (more > 0) refuseExtraArguments(more, hasher.#callName(call), most, hint);
   }
 
   // How errors name a call.
-  #caller(call) {
+  #callName(call) {
     return `${this.#name}.${call}`;
   }
 
   // The state, if the hash has not ended.
-  #open(call) {
+  #stateUnlessEnded(call) {
     if (this.#hasEnded) {
-      throw new TypeError(`${this.#caller(call)}: this hash has ended${ENDED_BY}`);
+      throw new TypeError(`${this.#callName(call)}: this hash has ended${ENDED_BY}`);
     }
     return this.#state;
   }
 
   // The same for a call that changes the hash.
-  #own(call) {
-    const state = this.#open(call);
-    if (this.#isPiped) refusePiped(this, this.#caller(call));
+  #stateUnlessEndedOrPiped(call) {
+    const state = this.#stateUnlessEnded(call);
+    if (this.#isPiped) refuseIfPiped(this, this.#callName(call));
     return state;
   }
 
   // The same for a call that ends the hash, or does so if it throws.
-  #end(call) {
-    const state = this.#own(call);
+  #endAndTakeState(call) {
+    const state = this.#stateUnlessEndedOrPiped(call);
     this.#hasEnded = true;
     return state;
   }
 
   get digestLength() {
-    Hasher.#check(this, "digestLength", 0);
+    Hasher.#checkObjectAndArguments(this, "digestLength", 0);
     return this.#digestLength;
   }
 
   get blockLength() {
-    Hasher.#check(this, "blockLength", 0);
+    Hasher.#checkObjectAndArguments(this, "blockLength", 0);
     return this.#kind.blockLength;
   }
 
   update(message) {
-    Hasher.#check(this, "update", arguments.length - 1, 1);
+    Hasher.#checkObjectAndArguments(this, "update", arguments.length - 1, 1);
     const bytes =
-      isPlainBytes(message) ? message : bytesOf(message, this.#caller("update"), "message");
-    this.#own("update");
+      isFilledUint8Array(message) ? message : bytesOf(message, this.#callName("update"), "message");
+    this.#stateUnlessEndedOrPiped("update");
     if (Hasher.#absorb(this, bytes)) return this;
-    throw new RangeError(`${this.#caller("update")}: the message is too long`);
+    throw new RangeError(`${this.#callName("update")}: the message is too long`);
   }
 
   // Returns false, and changes nothing, if the message would be too long. Static, since a call of a
@@ -254,14 +254,14 @@ export class Hasher {
     const { stateLength, room, certainBelow } = hasher.#kind;
     const length = lengthOf(bytes);
     if (hasher.#waiting + length > room || hasher.#count >= certainBelow) {
-      return hasher.#absorbNow(bytes);
+      return hasher.#absorbByLibrary(bytes);
     }
     hasher.#state.set(bytes, stateLength + hasher.#waiting);
     hasher.#waiting += length;
     return true;
   }
 
-  #absorbNow(bytes) {
+  #absorbByLibrary(bytes) {
     const hasEnded = this.#hasEnded; // until all of updateMany have absorbed
     this.#hasEnded = true; // if the call throws
     const isTaken = engine.update(this.#kind, this.#state, this.#waiting, bytes);
@@ -274,43 +274,43 @@ export class Hasher {
   }
 
   digest() {
-    Hasher.#check(this, "digest", arguments.length, 0, "use hex() for hexadecimal digits");
-    const state = this.#end("digest");
+    Hasher.#checkObjectAndArguments(this, "digest", arguments.length, 0, "use hex() for hexadecimal digits");
+    const state = this.#endAndTakeState("digest");
     return engine.final(this.#kind, state, this.#waiting, this.#digestLength);
   }
 
   hex() {
-    Hasher.#check(this, "hex", arguments.length, 0);
-    this.#own("hex");
+    Hasher.#checkObjectAndArguments(this, "hex", arguments.length, 0);
+    this.#stateUnlessEndedOrPiped("hex");
     return hex(this.digest());
   }
 
   verify(tag) {
-    Hasher.#check(this, "verify", arguments.length - 1, 1);
-    const bytes = bytesOf(tag, this.#caller("verify"), "tag");
-    this.#own("verify");
+    Hasher.#checkObjectAndArguments(this, "verify", arguments.length - 1, 1);
+    const bytes = bytesOf(tag, this.#callName("verify"), "tag");
+    this.#stateUnlessEndedOrPiped("verify");
     if (!this.#isKeyed && !this.#kind.isTree) {
       throw new TypeError(
-        `${this.#caller("verify")}: this hash has no key, so that anybody can make the tag; ` +
+        `${this.#callName("verify")}: this hash has no key, so that anybody can make the tag; ` +
           "compare digests with equal()",
       );
     }
     if (this.#digestLength < LEAST_TAG && !this.#allowsShort && !this.#kind.isTree) {
       throw new RangeError(
-        `${this.#caller("verify")}: a tag must have at least ${LEAST_TAG} bytes, ` +
+        `${this.#callName("verify")}: a tag must have at least ${LEAST_TAG} bytes, ` +
           `not ${this.#digestLength}, unless allowShort is true`,
       );
     }
-    const state = this.#end("verify");
+    const state = this.#endAndTakeState("verify");
     if (!engine.verify(this.#kind, state, this.#waiting, this.#digestLength, bytes)) {
-      throw new InvalidTagError(`${this.#caller("verify")}: the tag is wrong`);
+      throw new InvalidTagError(`${this.#callName("verify")}: the tag is wrong`);
     }
   }
 
   copy() {
-    Hasher.#check(this, "copy", arguments.length, 0);
+    Hasher.#checkObjectAndArguments(this, "copy", arguments.length, 0);
     const copy = Reflect.construct(Hasher, [this.#kind, this.#name, COPY], this.constructor);
-    const state = this.#open("copy"); // after all code of the class, which may be the caller's
+    const state = this.#stateUnlessEnded("copy"); // after all code of the class, which may be the caller's
     copy.#waiting = this.#waiting;
     copy.#count = this.#count;
     copy.#digestLength = this.#digestLength;
@@ -318,14 +318,14 @@ export class Hasher {
     copy.#isKeyed = this.#isKeyed;
     copy.#allowsShort = this.#allowsShort;
     copy.#state = engine.newState(this.#kind);
-    copy.#watch();
+    copy.#wipeWhenCollected();
     copy.#state.set(state);
     return copy;
   }
 
   reset() {
-    Hasher.#check(this, "reset", arguments.length, 0);
-    const state = this.#end("reset");
+    Hasher.#checkObjectAndArguments(this, "reset", arguments.length, 0);
+    const state = this.#endAndTakeState("reset");
     if (this.#kind.isTree) state.set(engine.begin(this.#kind, this.#settings));
     else engine.reset(this.#kind, state);
     this.#waiting = 0;
@@ -335,13 +335,13 @@ export class Hasher {
   }
 
   wipe() {
-    Hasher.#check(this, "wipe", 0);
+    Hasher.#checkObjectAndArguments(this, "wipe", 0);
     this.#hasEnded = true;
     this.#state.fill(0);
   }
 }
 
-Object.defineProperty(Hasher.prototype, "on", { value: refusePipe });
+Object.defineProperty(Hasher.prototype, "on", { value: refuseNodePipe });
 Object.defineProperty(Hasher.prototype, Symbol.dispose ?? Symbol.for("Symbol.dispose"), {
   value: Hasher.prototype.wipe,
   configurable: true,

@@ -1,7 +1,7 @@
 // Ranges of the leaves of a tree of two levels, and its root over their digests.
-import { lengthOf, partOf } from "./arguments.js";
+import { lengthOf, subarrayOf } from "./arguments.js";
 import {
-  LIMITS, MESSAGES, PART, PLAN, WINDOW_LENGTH, begin, final, granted, hash, update, withEngine,
+  LIMITS, MESSAGES, PART, PLAN, WINDOW_LENGTH, begin, final, assertAccepted, hash, update, withEngine,
 } from "./engine.js";
 import { TREE, WHOLE_BLAKE2B } from "./whole_module.js";
 
@@ -18,14 +18,14 @@ export function planOf(length, leafLength, part, most) {
     for (const [i, limit] of [1, 1, part, most].entries()) {
       engine.view.setBigUint64(engine.base + LIMITS + 8 * i, BigInt(limit), true);
     }
-    granted(engine.ofTrees("plan")(
+    assertAccepted(engine.treeFunction("plan")(
       engine.at.plan, 0n, BigInt(length), leafLength, engine.at.limits));
     const plan = {
       bytes: engine.read(PLAN, PART - PLAN),
       count: Number(engine.view.getBigUint64(at + 40, true)),
       digestsLength: Number(engine.view.getBigUint64(at + 56, true)),
     };
-    engine.clean(TREE, 0);
+    engine.wipeAfterCall(TREE, 0);
     return plan;
   }, TREE);
 }
@@ -37,11 +37,11 @@ export function planOf(length, leafLength, part, most) {
 export function partOfPlan(plan, i) {
   return withEngine((engine) => {
     engine.put(plan.bytes, PLAN);
-    granted(engine.ofTrees("part")(engine.at.part, engine.at.plan, BigInt(i)));
+    assertAccepted(engine.treeFunction("part")(engine.at.part, engine.at.plan, BigInt(i)));
     const [first, ...numbers] = [0, 8, 16, 24, 32, 40].map((offset) =>
       engine.view.getBigUint64(engine.base + PART + offset, true));
     const [start, length, digestsStart, digestsLength, ends] = numbers.map(Number);
-    engine.clean(TREE, 0);
+    engine.wipeAfterCall(TREE, 0);
     return { first, start, length, digestsStart, digestsLength, ends: ends === 1 };
   }, TREE);
 }
@@ -57,11 +57,11 @@ function hashNode({ leafLength, salt, personalization }, digestLength, node, mes
 function hashShortLeaves(settings, { first, ends }, message, room) {
   return withEngine((engine) => {
     const { messages } = engine.at;
-    granted(engine.ofTrees("leaves")(
+    assertAccepted(engine.treeFunction("leaves")(
       messages, BigInt(room), first, ends ? 1 : 0, messages + BigInt(room),
-      engine.put(message, MESSAGES + room), ...engine.putLabels(settings), settings.leafLength));
+      engine.put(message, MESSAGES + room), ...engine.putSaltAndPersonalization(settings), settings.leafLength));
     const digests = engine.read(MESSAGES, room);
-    engine.cleanAll(room + lengthOf(message));
+    engine.wipeFromMessages(room + lengthOf(message));
     return digests;
   }, TREE);
 }
@@ -79,7 +79,7 @@ export function hashLeaves(settings, range, message) {
   for (let i = 0; i < plan.count; i++) {
     const part = partOfPlan(plan, i);
     const place = { first: range.first + part.first, ends: range.ends && part.ends };
-    const bytes = partOf(message, part.start, part.length);
+    const bytes = subarrayOf(message, part.start, part.length);
     digests.set(
       part.length <= most
         ? hashShortLeaves(settings, place, bytes, part.digestsLength)
@@ -94,11 +94,11 @@ export function rootOfLeaves(settings, digests) {
   const { digestLength, leafLength } = settings;
   if (lengthOf(digests) > WINDOW_LENGTH) return hashNode(settings, digestLength, "root", digests);
   return withEngine((engine) => {
-    granted(engine.ofTrees("root_of_leaves")(
+    assertAccepted(engine.treeFunction("root_of_leaves")(
       engine.at.out, BigInt(digestLength), engine.at.messages, engine.put(digests, MESSAGES),
-      ...engine.putLabels(settings), leafLength));
+      ...engine.putSaltAndPersonalization(settings), leafLength));
     const root = engine.digest(digestLength);
-    engine.cleanAll(lengthOf(digests));
+    engine.wipeFromMessages(lengthOf(digests));
     return root;
   }, TREE);
 }

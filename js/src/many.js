@@ -1,7 +1,7 @@
 // Several messages in one call of the library, which hashes those of equal lengths in parallel.
 import { lengthOf } from "./arguments.js";
 import {
-  BATCH, KEY, MESSAGES, OUTS, RECORDS, WINDOW_LENGTH, granted, hash, withEngine,
+  BATCH, KEY, MESSAGES, OUTS, RECORDS, WINDOW_LENGTH, assertAccepted, hash, withEngine,
 } from "./engine.js";
 
 // The end of the batch that begins with this message: as many messages as the window and the
@@ -45,12 +45,12 @@ function hashBatch(kind, messages, settings) {
       at += lengthOf(message);
     });
     const { digestLength } = settings;
-    granted(engine.hash(kind).many(
+    assertAccepted(engine.hash(kind).many(
       engine.at.outs, BigInt(digestLength * messages.length), BigInt(digestLength),
       engine.at.records, BigInt(messages.length), engine.at.key, engine.put(settings.key, KEY),
-      ...engine.putLabels(settings)));
+      ...engine.putSaltAndPersonalization(settings)));
     const digests = messages.map((_, i) => engine.read(OUTS + digestLength * i, digestLength));
-    engine.cleanAll(at - MESSAGES);
+    engine.wipeFromMessages(at - MESSAGES);
     return digests;
   }, kind);
 }

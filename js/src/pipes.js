@@ -1,19 +1,19 @@
 // Streams that hash what is piped into them.
 
-import { bytesOf, kindOf, refuseMore } from "./arguments.js";
-import { isHasher, refuseEnded, refusePipe, refusePiped, setPiped } from "./hashers.js";
+import { bytesOf, describeValue, refuseExtraArguments } from "./arguments.js";
+import { isHasher, refuseIfEnded, refuseNodePipe, refuseIfPiped, setPiped } from "./hashers.js";
 
 // Returns what absorbs a chunk. If it cannot, the hash ends.
-function absorber(hasher, caller, rest) {
-  refuseMore(rest.length, caller, 1, "options are those of the hash");
+function newChunkAbsorber(hasher, caller, rest) {
+  refuseExtraArguments(rest.length, caller, 1, "options are those of the hash");
   if (!isHasher(hasher)) {
     throw new TypeError(
       `${caller}: hash must be a Blake2b, Blake2s, Blake2bp, Blake2sp or TreeHash, ` +
-        `not ${kindOf(hasher)}`,
+        `not ${describeValue(hasher)}`,
     );
   }
-  refusePiped(hasher, caller);
-  refuseEnded(hasher, caller);
+  refuseIfPiped(hasher, caller);
+  refuseIfEnded(hasher, caller);
   return (chunk) => {
     setPiped(hasher, false);
     try {
@@ -28,18 +28,18 @@ function absorber(hasher, caller, rest) {
 }
 
 export function hashWritable(hasher, ...rest) {
-  const absorb = absorber(hasher, "hashWritable", rest);
+  const absorb = newChunkAbsorber(hasher, "hashWritable", rest);
   const writable = new WritableStream({
     write: absorb, close: () => setPiped(hasher, false), abort: () => hasher.wipe(),
   });
   setPiped(hasher, true);
-  return Object.defineProperty(writable, "on", { value: refusePipe });
+  return Object.defineProperty(writable, "on", { value: refuseNodePipe });
 }
 
 // The two ends of a TransformStream, which is not notified when its readable end is canceled or, while
 // a chunk waits to be read, when the other is aborted.
 export function hashTransform(hasher, ...rest) {
-  const absorb = absorber(hasher, "hashTransform", rest);
+  const absorb = newChunkAbsorber(hasher, "hashTransform", rest);
   let source; // the controllers of the ends
   let sink;
   let isWanted = false; // whether a chunk is

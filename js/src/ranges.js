@@ -15,7 +15,7 @@ function readFile({ fd, at, length }) {
 }
 
 /** The digests of the leaves of a range, which has one of message, blob and file. */
-export async function digestsOf({ settings, range, message, blob, file }) {
+export async function digestsOfRange({ settings, range, message, blob, file }) {
   const bytes = blob === undefined
     ? message ?? readFile(file) : new Uint8Array(await blob.arrayBuffer());
   return hashLeaves(settings, range, bytes);

@@ -1,9 +1,9 @@
 // Hashes of what arrives piece by piece: files, blobs, responses, node's streams.
 
 import {
-  OPTIONS, bytesOf, integerOf, isBytes, kindOf, lengthOf, readSettings, refuseMore,
+  OPTIONS, bytesOf, integerOf, isBytes, describeValue, lengthOf, readSettings, refuseExtraArguments,
 } from "./arguments.js";
-import { MOST_THREADS, mayReadBlobs, ofNode, processorCount } from "./platform.js";
+import { MOST_THREADS, canWorkersReadBlobs, nodeModule, processorCount } from "./platform.js";
 
 // How much of a blob is read at a time.
 const SLICE = 4 * 1024 * 1024;
@@ -64,8 +64,8 @@ function adviceOn(source, caller) {
 const passed = new WeakSet();
 
 // Whether a stream was read or canceled. A browser shows it only by refusing the stream as a body.
-function wasRead(stream) {
-  const { Readable } = ofNode("stream") ?? {};
+function isStreamRead(stream) {
+  const { Readable } = nodeModule("stream") ?? {};
   if (Readable !== undefined) return Readable.isDisturbed(stream);
   if (typeof ReadableStream === "undefined" || !(stream instanceof ReadableStream)) return false;
   try {
@@ -77,18 +77,18 @@ function wasRead(stream) {
 }
 
 // The number of readers that wait for the next bytes of a stream of node.
-const readersOf = (stream) => stream.listenerCount?.("readable") ?? 0;
+const countNodeReaders = (stream) => stream.listenerCount?.("readable") ?? 0;
 
 // Refuses a source of which somebody else has some bytes, or may get them.
-function refuseIf(isRead, caller) {
+function refuseIfRead(isRead, caller) {
   if (!isRead) return;
   throw new TypeError(`${caller}: source was already read, or something else is reading it`);
 }
 
 // Refuses such a source at the call, and from then on for another call.
 function claimSource(source, caller) {
-  const isRead = source.locked === true || readersOf(source) > 0 || wasRead(source);
-  refuseIf(isRead || passed.has(source), caller);
+  const isRead = source.locked === true || countNodeReaders(source) > 0 || isStreamRead(source);
+  refuseIfRead(isRead || passed.has(source), caller);
   passed.add(source);
 }
 
@@ -112,7 +112,7 @@ function openIterable(source, caller) {
   if (isStream || iterator === source) claimSource(source, caller); // the second is a generator, say
   return {
     next() {
-      refuseIf(isStream && readersOf(source) > 1, caller);
+      refuseIfRead(isStream && countNodeReaders(source) > 1, caller);
       return iterator.next();
     },
     close(isDone) {
@@ -125,7 +125,7 @@ function openBlob(blob, caller) {
   return {
     ...openIterable(slicesOf(blob), caller),
     total: blob.size,
-    part: mayReadBlobs() ? (at, length) => ({ blob: blob.slice(at, at + length) }) : undefined,
+    part: canWorkersReadBlobs() ? (at, length) => ({ blob: blob.slice(at, at + length) }) : undefined,
   };
 }
 
@@ -143,7 +143,7 @@ function openReader(source, caller) {
   if (!isIterable || typeof source === "string" || isBytes(source)) {
     throw new TypeError(
       `${caller}: source must be a Blob, a ReadableStream, a FileHandle or an iterable of bytes, ` +
-        `not ${kindOf(source)}${adviceOn(source, caller)}`,
+        `not ${describeValue(source)}${adviceOn(source, caller)}`,
     );
   }
   return openIterable(source, caller);
@@ -161,7 +161,7 @@ function unlessAborted(result, signal) {
 
 function checkCallback(value, caller, what) {
   if (value !== undefined && typeof value !== "function") {
-    throw new TypeError(`${caller}: ${what} must be a function, not ${kindOf(value)}`);
+    throw new TypeError(`${caller}: ${what} must be a function, not ${describeValue(value)}`);
   }
 }
 
@@ -170,12 +170,12 @@ function checkSignal(value, caller) {
   if (value === undefined) return;
   const calls = [value?.addEventListener, value?.removeEventListener];
   if (typeof value?.aborted !== "boolean" || calls.some((call) => typeof call !== "function")) {
-    throw new TypeError(`${caller}: signal must be an AbortSignal, not ${kindOf(value)}`);
+    throw new TypeError(`${caller}: signal must be an AbortSignal, not ${describeValue(value)}`);
   }
 }
 
 // The options of the hash among those of a call that are given.
-const ownOptions = (kind, read) => Object.fromEntries(
+const hashOptionsOf = (kind, read) => Object.fromEntries(
   OPTIONS[kind.options].filter((name) => read[name] !== undefined)
     .map((name) => [name, read[name]]));
 
@@ -184,7 +184,7 @@ const ownOptions = (kind, read) => Object.fromEntries(
  * are those of threads.js, which only trees pass, so that other bundles do not have them.
  */
 export async function hashStream(kind, Hasher, caller, source, options, rest, workers) {
-  refuseMore(rest.length, caller, 2);
+  refuseExtraArguments(rest.length, caller, 2);
   const known = [...OPTIONS[kind.options], "onProgress", "signal"];
   if (kind.isTree) known.push("threads", "onFallback");
   const [settings, read] = readSettings(kind, options, caller, known);
@@ -209,9 +209,9 @@ export async function hashStream(kind, Hasher, caller, source, options, rest, wo
     // before anything is waited for, so that the caller may wipe its key after the call
     run = isShared
       ? new workers.TreeThreads(settings, count, caller, { report, onFallback, control })
-      : new Hasher(ownOptions(kind, { ...read, tree: settings.tree })); // whose getters have run
+      : new Hasher(hashOptionsOf(kind, { ...read, tree: settings.tree })); // whose getters have run
     if (reader.prepare) await unlessAborted(reader.prepare(), control.signal);
-    if (isShared && reader.part) return await run.digestOf(reader.total, reader.part);
+    if (isShared && reader.part) return await run.digestOfSource(reader.total, reader.part);
     for (;;) {
       control.signal.throwIfAborted();
       const { done, value } = await unlessAborted(reader.next(), control.signal);

@@ -1,6 +1,6 @@
 // The root of a tree by several workers, each of which hashes ranges of leaves.
 
-import { copyOf, lengthOf, partOf } from "./arguments.js";
+import { copyOf, lengthOf, subarrayOf } from "./arguments.js";
 import { LEAF_DIGEST, beginRoot, endRoot, partOfPlan, planOf, updateRoot } from "./leaves.js";
 import { RangeWorker } from "./workers.js";
 
@@ -63,7 +63,7 @@ export class TreeThreads {
   }
 
   // Begins the next range.
-  #begin() {
+  #beginRange() {
     const { first, length } = partOfPlan(this.#plan, this.#sent);
     this.#leaf = first;
     this.#range = new Uint8Array(length);
@@ -71,14 +71,14 @@ export class TreeThreads {
   }
 
   // Waits for a worker's next result. Throws if the call was aborted.
-  async #result() {
+  async #waitForResult() {
     this.#control.signal.throwIfAborted();
     await new Promise((resolve) => (this.#wake = resolve));
     this.#control.signal.throwIfAborted();
   }
 
   // Calls what the caller gave. If it throws, the call is aborted.
-  #tell(callback, ...values) {
+  #callCallback(callback, ...values) {
     try {
       callback?.(...values);
     } catch (fault) {
@@ -86,18 +86,18 @@ export class TreeThreads {
     }
   }
 
-  #start() {
+  #startWorker() {
     const entry = {};
     entry.worker = new RangeWorker(this.#caller, {
       onDigests: (digests) => {
         this.#digests.set(entry.range, digests);
         this.#absorbDigests();
         this.#idle.push(entry);
-        this.#tell(this.#report, entry.length);
+        this.#callCallback(this.#report, entry.length);
         this.#wake();
       },
       onFallback: (cause) => {
-        this.#tell(this.#onFallback, cause);
+        this.#callCallback(this.#onFallback, cause);
         this.#onFallback = undefined;
       },
       onFault: (fault) => this.#control.abort(fault),
@@ -115,38 +115,38 @@ export class TreeThreads {
   }
 
   // Whether a range can be passed to a worker.
-  #hasRoom() {
+  #canSendRange() {
     return (this.#idle.length > 0 || this.#workers.length < this.#count) &&
       this.#sent - this.#absorbed < AHEAD * this.#count;
   }
 
   // Passes a range to a worker: its bytes, or where the worker reads them.
-  async #send(source, { first, length, ends }) {
-    while (!this.#hasRoom()) await this.#result();
+  async #sendRange(source, { first, length, ends }) {
+    while (!this.#canSendRange()) await this.#waitForResult();
     this.#control.signal.throwIfAborted();
-    const entry = this.#idle.pop() ?? this.#start();
+    const entry = this.#idle.pop() ?? this.#startWorker();
     entry.range = this.#sent++;
     entry.length = length;
     entry.worker.post({ settings: this.#settings, range: { first, ends }, ...source });
   }
 
   // Passes the range that is filled.
-  async #sendFilled(ends) {
+  async #sendFilledRange(ends) {
     const message = this.#range.subarray(0, this.#filled);
-    await this.#send({ message }, { first: this.#leaf, length: this.#filled, ends });
+    await this.#sendRange({ message }, { first: this.#leaf, length: this.#filled, ends });
   }
 
   /** Absorbs bytes. A full range stays here until more comes, since it may end the message. */
   async update(bytes) {
     const length = lengthOf(bytes); // they may be taken away while this waits, and then it throws
     for (let at = 0; at < length; ) {
-      if (this.#range === undefined) this.#begin();
+      if (this.#range === undefined) this.#beginRange();
       if (this.#filled === this.#range.length) {
-        await this.#sendFilled(false);
-        this.#begin();
+        await this.#sendFilledRange(false);
+        this.#beginRange();
       }
       const size = Math.min(length - at, this.#range.length - this.#filled);
-      this.#range.set(partOf(bytes, at, size), this.#filled);
+      this.#range.set(subarrayOf(bytes, at, size), this.#filled);
       this.#filled += size;
       at += size;
     }
@@ -154,23 +154,23 @@ export class TreeThreads {
 
   /** The root of all that was absorbed. */
   async digest() {
-    if (this.#range === undefined) this.#begin();
-    await this.#sendFilled(true);
-    return this.#end();
+    if (this.#range === undefined) this.#beginRange();
+    await this.#sendFilledRange(true);
+    return this.#finishRoot();
   }
 
   /** The root of a source of this length, where sourceOf(at, length) is what a worker reads. */
-  async digestOf(total, sourceOf) {
+  async digestOfSource(total, sourceOf) {
     const plan = this.#planOf(total);
     for (let i = 0; i < plan.count; i++) {
       const part = partOfPlan(plan, i);
-      await this.#send(sourceOf(part.start, part.length), part);
+      await this.#sendRange(sourceOf(part.start, part.length), part);
     }
-    return this.#end();
+    return this.#finishRoot();
   }
 
-  async #end() {
-    while (this.#idle.length < this.#workers.length) await this.#result();
+  async #finishRoot() {
+    while (this.#idle.length < this.#workers.length) await this.#waitForResult();
     return endRoot(this.#root, this.#digestLength);
   }
 

@@ -1,7 +1,7 @@
 // Hashes ranges of leaves in a worker, for workers.js, which starts it from worker_text.js or from
 // this file.
 
-import { digestsOf } from "./ranges.js";
+import { digestsOfRange } from "./ranges.js";
 import { moduleOf } from "./whole_module.js";
 
 const { parentPort } = globalThis.process?.getBuiltinModule?.("node:worker_threads") ?? {};
@@ -11,6 +11,6 @@ const port = parentPort ?? globalThis;
 const fail = (fault) => setTimeout(() => { throw fault; });
 port.onmessage = ({ data: { module, ...job } }) => {
   moduleOf(module); // so that it is not compiled again here
-  digestsOf(job).then((digests) => port.postMessage(digests, [digests.buffer])).catch(fail);
+  digestsOfRange(job).then((digests) => port.postMessage(digests, [digests.buffer])).catch(fail);
 };
 port.postMessage("ready");

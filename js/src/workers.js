@@ -1,15 +1,15 @@
 // Workers of node and of the browser. The calling thread does the work of one that cannot be
 // started.
 
-import { ofNode } from "./platform.js";
-import { digestsOf } from "./ranges.js";
+import { nodeModule } from "./platform.js";
+import { digestsOfRange } from "./ranges.js";
 import { moduleOf } from "./whole_module.js";
 import { text } from "./worker_text.js";
 
 // Starts a worker of node from its text. The flags of the process are left out, since some of them
 // are refused for a worker.
 const startInNode = () =>
-  new (ofNode("worker_threads").Worker)(text, { eval: true, execArgv: [] });
+  new (nodeModule("worker_threads").Worker)(text, { eval: true, execArgv: [] });
 
 // Starts a worker of a browser from its text. A bundle then needs no file next to it.
 function startFromText() {
@@ -41,7 +41,7 @@ function listenTo(worker, onMessage, onFault) {
 
 // Lets other work of this thread run, such as what aborts a call. A browser has no setImmediate,
 // and its timers are slow in a page that is not seen.
-const pause = () => new Promise((resolve) => {
+const yieldToOtherWork = () => new Promise((resolve) => {
   if (globalThis.setImmediate !== undefined) return setImmediate(resolve);
   const { port1, port2 } = new MessageChannel();
   port1.onmessage = () => {
@@ -67,50 +67,50 @@ export class RangeWorker {
   constructor(caller, listeners) {
     this.#caller = caller;
     this.#listeners = listeners;
-    this.#start(ofNode("worker_threads") ? [startInNode] : [startFromText, startFromFile]);
+    this.#startWorker(nodeModule("worker_threads") ? [startInNode] : [startFromText, startFromFile]);
   }
 
   // Starts a worker in the first of these ways that succeeds. Its first message says that it has
   // started.
-  #start([start, ...others], cause) {
+  #startWorker([start, ...others], cause) {
     if (start === undefined) {
       this.#listeners.onFallback(cause);
-      return this.#ready();
+      return this.#becomeReady();
     }
     let worker;
     try {
       worker = this.#worker = start();
     } catch (fault) {
-      return this.#start(others, fault);
+      return this.#startWorker(others, fault);
     }
     const isCurrent = () => this.#worker === worker;
     listenTo(worker, (data) => {
       if (!isCurrent()) return;
       if (this.#isReady) this.#listeners.onDigests(data);
-      else this.#ready();
+      else this.#becomeReady();
     }, (fault) => {
       if (!isCurrent()) return;
-      if (this.#isReady) return this.#fail(fault);
-      this.#end();
-      this.#start(others, fault);
+      if (this.#isReady) return this.#reportFault(fault);
+      this.#terminateWorker();
+      this.#startWorker(others, fault);
     });
   }
 
-  #fail(cause) {
+  #reportFault(cause) {
     const message = `${this.#caller}: a worker failed: ${cause?.message ?? cause}`;
     this.#listeners.onFault(new Error(message, { cause }));
   }
 
-  #ready() {
+  #becomeReady() {
     this.#isReady = true;
     this.#worker?.release?.();
     if (this.#job !== undefined) this.post(this.#job);
   }
 
-  /** Hashes a range as digestsOf does, as soon as it can. The one before has to be done. */
+  /** Hashes a range as digestsOfRange does, as soon as it can. The one before has to be done. */
   post(job) {
     if (!this.#isReady) this.#job = job;
-    else if (this.#worker === undefined) this.#hash(job);
+    else if (this.#worker === undefined) this.#hashHere(job);
     else {
       const transferred = job.message === undefined ? [] : [job.message.buffer];
       this.#worker.postMessage({ module: moduleOf(), ...job }, transferred);
@@ -118,14 +118,14 @@ export class RangeWorker {
   }
 
   // Hashes a range here.
-  async #hash(job) {
-    await pause();
+  async #hashHere(job) {
+    await yieldToOtherWork();
     if (this.#isStopped) return;
-    await digestsOf(job).then(
+    await digestsOfRange(job).then(
       (digests) => this.#isStopped || this.#listeners.onDigests(digests), this.#listeners.onFault);
   }
 
-  #end() {
+  #terminateWorker() {
     this.#worker?.release?.();
     this.#worker?.terminate();
     this.#worker = undefined;
@@ -134,6 +134,6 @@ export class RangeWorker {
   /** Stops the worker. */
   stop() {
     this.#isStopped = true;
-    this.#end();
+    this.#terminateWorker();
   }
 }

@@ -2,7 +2,7 @@
 // owns, as in hashers.js.
 
 import {
-  bytesOf, integerOf, lengthOf, readSettings, refuseDetached, refuseMore, settingsOf,
+  bytesOf, integerOf, lengthOf, readSettings, refuseCallWithoutObject, refuseExtraArguments, settingsOf,
 } from "./arguments.js";
 import * as engine from "./engine.js";
 import { BLAKE2XB, BLAKE2XS } from "./whole_module.js";
@@ -27,32 +27,32 @@ export class Output {
   constructor(kind, name, options, rest) {
     this.#kind = kind;
     this.#name = name;
-    if (options !== COPY) this.#begin(options, rest);
+    if (options !== COPY) this.#initialize(options, rest);
   }
 
-  #begin(options, rest) {
+  #initialize(options, rest) {
     const caller = `new ${this.#name}`;
-    refuseMore(rest.length, caller, 1);
+    refuseExtraArguments(rest.length, caller, 1);
     const [settings, { outputLength }] = readSettings(this.#kind, options, caller);
     const most = this.#kind.digestLength;
     settings.digestLength = integerOf(outputLength, caller, "outputLength", 1, most - 1, most);
     this.#state = engine.begin(this.#kind, settings);
     this.#isKeyed = lengthOf(settings.key) > 0;
-    this.#watch();
+    this.#wipeWhenCollected();
   }
 
-  #watch() {
+  #wipeWhenCollected() {
     if (this.#isKeyed) collected.register(this, this.#state);
   }
 
   // How errors name a method. It is called with this, which may be no output.
   static #callerOf(output, call) {
-    if (!(#name in Object(output))) refuseDetached(call, "output");
+    if (!(#name in Object(output))) refuseCallWithoutObject(call, "output");
     return `${output.#name}.${call}`;
   }
 
   // The state, if it is not wiped.
-  #open(caller) {
+  #stateUnlessWiped(caller) {
     if (this.#hasEnded) {
       throw new TypeError(`${caller}: this output was wiped, or a call failed`);
     }
@@ -67,14 +67,14 @@ export class Output {
   /** How many bytes are left, as a bigint. */
   get left() {
     const caller = Output.#callerOf(this, "left");
-    return engine.left(this.#kind, this.#open(caller));
+    return engine.left(this.#kind, this.#stateUnlessWiped(caller));
   }
 
   update(message, ...rest) {
     const caller = Output.#callerOf(this, "update");
-    refuseMore(rest.length, caller, 1);
+    refuseExtraArguments(rest.length, caller, 1);
     const bytes = bytesOf(message, caller, "message");
-    const state = this.#open(caller);
+    const state = this.#stateUnlessWiped(caller);
     if (this.#isRead) throw new TypeError(`${caller}: the output is already being read`);
     this.#hasEnded = true; // if the call throws, nothing more is read
     const isTaken = engine.update(this.#kind, state, 0, bytes);
@@ -85,10 +85,10 @@ export class Output {
 
   read(length, ...rest) {
     const caller = Output.#callerOf(this, "read");
-    refuseMore(rest.length, caller, 1);
+    refuseExtraArguments(rest.length, caller, 1);
     if (length === undefined) throw new TypeError(`${caller}: length must be given`);
     const count = integerOf(length, caller, "length", 0, MOST);
-    const state = this.#open(caller);
+    const state = this.#stateUnlessWiped(caller);
     this.#hasEnded = true; // as in update
     const output = engine.squeeze(this.#kind, state, count);
     this.#hasEnded = false;
@@ -101,13 +101,13 @@ export class Output {
 
   copy(...rest) {
     const caller = Output.#callerOf(this, "copy");
-    refuseMore(rest.length, caller, 0);
+    refuseExtraArguments(rest.length, caller, 0);
     const copy = Reflect.construct(Output, [this.#kind, this.#name, COPY], this.constructor);
-    const state = this.#open(caller); // after all code of the class, which may be the caller's
+    const state = this.#stateUnlessWiped(caller); // after all code of the class, which may be the caller's
     copy.#isKeyed = this.#isKeyed;
     copy.#isRead = this.#isRead;
     copy.#state = engine.newState(this.#kind);
-    copy.#watch();
+    copy.#wipeWhenCollected();
     copy.#state.set(state);
     return copy;
   }
@@ -139,7 +139,7 @@ export class Blake2xs extends Output {
 
 /** A key of this length for a context: the output of BLAKE2Xb of the context under the key. */
 export function deriveKey(key, context, length, ...rest) {
-  refuseMore(rest.length, "deriveKey", 3);
+  refuseExtraArguments(rest.length, "deriveKey", 3);
   const bytes = bytesOf(context, "deriveKey", "context");
   for (const [what, given] of [["key", key], ["length", length]]) {
     if (given === undefined) throw new TypeError(`deriveKey: ${what} must be given`);

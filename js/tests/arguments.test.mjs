@@ -7,7 +7,7 @@ import test from "node:test";
 import vm from "node:vm";
 import * as vulfsjor from "../index.js";
 import { memories } from "../src/engine.js";
-import { assertClean, hexOf, INDEX, printedBy } from "./common.mjs";
+import { assertMemoriesAreWiped, hexOf, INDEX, outputOfProgram } from "./common.mjs";
 
 const {
   Blake2b, Blake2bp, Blake2s, Blake2sp, Blake2xb, InvalidTagError, TreeHash, blake2b, blake2bMany, blake2bStream,
@@ -20,7 +20,7 @@ const bytes = (length) => new Uint8Array(length).fill(7);
 
 // Asserts the error of a call, of this class itself and with this text, and that the library's memories were not
 // touched.
-function refuses(call, Class, message) {
+function assertRefused(call, Class, message) {
   const before = memories();
   assert.throws(call, { message, constructor: Class });
   assert.deepEqual(memories().map((bytes, i) => bytes === before[i]), [true, true, true], message);
@@ -30,7 +30,7 @@ function refuses(call, Class, message) {
 const testRefusals = (name, work) => test(name, async () => {
   for (const hash of [blake2b, blake2s, blake2bp]) hash(M); // one of each module
   await work();
-  assertClean();
+  assertMemoriesAreWiped();
 });
 
 const tooMany = (count, most) =>
@@ -91,20 +91,21 @@ const WITH_OPTIONS = [
 ];
 
 // Refuses numbers out of these bounds, and what is no number.
-function refusesNumbers(call, what, least, most) {
+function assertRefusesWrongNumbers(call, what, least, most) {
   for (const value of [least - 1, -1, most + 1, least + 0.5, NaN, Infinity, -Infinity, 2 ** 53, 2 ** 64]) {
-    refuses(() => call(value), RangeError, `${what} must be an integer from ${least} to ${most}, not ${value}`);
+    assertRefused(() => call(value), RangeError, `${what} must be an integer from ${least} to ${most}, not ${value}`);
   }
   for (const [value, said] of NO_NUMBERS) {
-    refuses(() => call(value), TypeError, `${what} must be a number, not ${said}`);
+    assertRefused(() => call(value), TypeError, `${what} must be a number, not ${said}`);
   }
 }
 
 // Refuses what is not bytes.
-function refusesOthers(call, what, isOption = false) {
+function assertRefusesNonBytes(call, what, isOption = false) {
   for (const [value, said] of NO_BYTES) {
     if (isOption && value === undefined) continue; // an option that is not given
-    refuses(() => call(value), TypeError, `${what} must be a Uint8Array, another view or an ArrayBuffer, not ${said}`);
+    assertRefused(() => call(value), TypeError,
+      `${what} must be a Uint8Array, another view or an ArrayBuffer, not ${said}`);
   }
 }
 
@@ -114,40 +115,42 @@ for (const [caller, message, known, given = {}] of WITH_OPTIONS) {
     const call = (...words) => (isClass
       ? Reflect.construct(vulfsjor[caller.slice(4)], words) : vulfsjor[caller](message, ...words));
     for (const more of [undefined, 32]) {
-      refuses(() => call(given, more), TypeError, `${caller}: ${isClass ? tooMany(2, 1) : tooMany(3, 2)}`);
+      assertRefused(() => call(given, more), TypeError, `${caller}: ${isClass ? tooMany(2, 1) : tooMany(3, 2)}`);
     }
     if (isClass) assert.throws(() => vulfsjor[caller.slice(4)](given), TypeError);
     const names = Object.keys(known);
     for (const name of names) {
       const one = (value) => call({ ...given, [name]: value });
-      if (name in NUMBERS) refusesNumbers(one, `${caller}: ${name}`, NUMBERS[name], known[name]);
+      if (name in NUMBERS) assertRefusesWrongNumbers(one, `${caller}: ${name}`, NUMBERS[name], known[name]);
       if (!(name in LENGTHS)) continue;
-      refusesOthers(one, `${caller}: ${name}`, true);
+      assertRefusesNonBytes(one, `${caller}: ${name}`, true);
       for (const count of [LENGTHS[name] - 1, known[name] + 1, 256, 1000].filter((count) => count >= 0)) {
-        refuses(() => one(bytes(count)), RangeError,
+        assertRefused(() => one(bytes(count)), RangeError,
           `${caller}: ${name} must have ${LENGTHS[name]} to ${known[name]} bytes, not ${count}`);
       }
     }
     for (const name of [...MISSPELLED, "key", "digestLength"].filter((name) => !names.includes(name))) {
       const hidden = Object.defineProperty({}, name, { value: 3 });
       for (const options of [hidden, { [name]: undefined }, { [name]: {} }]) {
-        refuses(() => call(options), TypeError,
+        assertRefused(() => call(options), TypeError,
           `${caller}: unknown property "${name}" of options; known are ${names.join(", ")}`);
       }
     }
     for (const [value, said] of NO_OPTIONS) {
-      refuses(() => call(value), TypeError, `${caller}: options must be a plain object, not ${said}`);
+      assertRefused(() => call(value), TypeError, `${caller}: options must be a plain object, not ${said}`);
     }
     for (const options of "key" in known ? NO_KEY : []) {
-      refuses(() => call(options), TypeError, `${caller}: ${noKey}`);
+      assertRefused(() => call(options), TypeError, `${caller}: ${noKey}`);
     }
     for (const name of Object.keys(given)) {
-      refuses(() => call({ ...given, [name]: undefined }), TypeError, `${caller}: ${name} must be given`);
+      assertRefused(() => call({ ...given, [name]: undefined }), TypeError, `${caller}: ${name} must be given`);
     }
     if ("leafLength" in given) assert.throws(() => call(), { message: /: \w+ must be given$/ });
     const what = caller === "treeRootOfLeaves" ? "digests" : "message";
-    if (isClass) refusesOthers((value) => call(given).update(value), `${caller.slice(4)}.update: message`);
-    else if (!caller.endsWith("Many")) refusesOthers((value) => vulfsjor[caller](value, given), `${caller}: ${what}`);
+    if (isClass) assertRefusesNonBytes((value) => call(given).update(value), `${caller.slice(4)}.update: message`);
+    else if (!caller.endsWith("Many")) {
+      assertRefusesNonBytes((value) => vulfsjor[caller](value, given), `${caller}: ${what}`);
+    }
   });
 }
 
@@ -159,13 +162,13 @@ testRefusals("what is not bytes is refused, wherever else bytes are expected", (
     ["equal", "a", (value) => equal(value, M)], ["equal", "b", (value) => equal(M, value)], ["hex", "bytes", hex],
     ["deriveKey", "context", (value) => deriveKey(M, value, 9)],
   ]) {
-    refusesOthers(call, `${caller}: ${what}`);
+    assertRefusesNonBytes(call, `${caller}: ${what}`);
   }
-  refusesOthers((value) => deriveKey(value, M, 9), "deriveKey: key", true);
+  assertRefusesNonBytes((value) => deriveKey(value, M, 9), "deriveKey: key", true);
 });
 
 // What else is refused: the name of a function, a call, the class of the error, and the rest of its text.
-const inTree = (name, offset) => {
+const refusalWithTree = (name, offset) => {
   const at = (tree) => () => vulfsjor[name](M, { tree });
   return [
     ...[-1, -1n, offset + 1n, 0.5, NaN, 2 ** 53].map((value) => [name, at({ nodeOffset: value }), RangeError,
@@ -207,8 +210,8 @@ const noDigits = [
 testRefusals("single values are refused", () => {
   const output = new Blake2xb({ outputLength: 9 }).update(M);
   const start = output.copy();
-  refusesNumbers((length) => output.read(length), "Blake2xb.read: length", 0, 2 ** 31 - 1);
-  refusesNumbers((length) => deriveKey(M, M, length), "deriveKey: length", 1, 2 ** 31 - 1);
+  assertRefusesWrongNumbers((length) => output.read(length), "Blake2xb.read: length", 0, 2 ** 31 - 1);
+  assertRefusesWrongNumbers((length) => deriveKey(M, M, length), "deriveKey: length", 1, 2 ** 31 - 1);
   output.read(5);
   for (const [name, call, Class, message] of [
     ["Blake2xb.read", () => output.read(), TypeError, "length must be given"],
@@ -217,7 +220,7 @@ testRefusals("single values are refused", () => {
     ["deriveKey", () => deriveKey(undefined, M, 9), TypeError, "key must be given"],
     ...[0, 65].map((length) => ["deriveKey", () => deriveKey(bytes(length), M, 9), RangeError,
       `key must have 1 to 64 bytes, not ${length}`]),
-    ...inTree("blake2b", 2n ** 64n - 1n), ...inTree("blake2s", 2n ** 48n - 1n), ...noRange,
+    ...refusalWithTree("blake2b", 2n ** 64n - 1n), ...refusalWithTree("blake2s", 2n ** 48n - 1n), ...noRange,
     ...[0, 1, 63, 65].map((length) => ["treeRootOfLeaves", () => treeRootOfLeaves(bytes(length), { leafLength: 5 }),
       RangeError, `digests must have 64 bytes for each leaf, not ${length} bytes`]),
     ...noMessages, ...noDigits,
@@ -225,13 +228,13 @@ testRefusals("single values are refused", () => {
       ["utf8", () => utf8(text), RangeError, "text has a lone surrogate"]),
     ...[utf8, fromHex].map((call) => [call.name, () => call(5), TypeError, "text must be a string, not a number"]),
   ]) {
-    refuses(call, Class, `${name}: ${message}`);
+    assertRefused(call, Class, `${name}: ${message}`);
   }
   for (const [name, most] of [["blake2b", 64], ["blake2s", 32]]) {
     for (const [what, least, greatest] of [["fanout", 0, 255], ["depth", 1, 255], ["leafLength", 0, WORD],
       ["nodeDepth", 0, 255], ["innerLength", 0, most]]) {
       const call = (value) => vulfsjor[name](M, { tree: { [what]: value } });
-      refusesNumbers(call, `${name}: tree.${what}`, least, greatest);
+      assertRefusesWrongNumbers(call, `${name}: tree.${what}`, least, greatest);
     }
   }
   assert.throws(() => output.read(5),
@@ -287,7 +290,7 @@ test("what an iterable yields is that of its time", () => {
     assert.deepEqual(tags, tags.map(() => one(M, { key }))); // one key for all
     let isClosed = false;
     const wrong = (function* () { try { yield M; yield "text"; yield M; } finally { isClosed = true; } })();
-    refuses(() => many(wrong), TypeError, `${many.name}: message 1 must be a Uint8Array, another view or an ` +
+    assertRefused(() => many(wrong), TypeError, `${many.name}: message 1 must be a Uint8Array, another view or an ` +
       "ArrayBuffer, not a string (utf8() encodes a string)");
     assert.ok(isClosed);
   }
@@ -311,14 +314,14 @@ test("verify compares tags of at least 16 bytes, unless the hash was made for sh
           continue;
         }
         for (const each of [hash, hash.copy()]) {
-          refuses(() => each.verify(tag), RangeError, `${Made.name}.verify: a tag must have at least 16 bytes, ` +
+          assertRefused(() => each.verify(tag), RangeError, `${Made.name}.verify: a tag must have at least 16 bytes, ` +
             `not ${digestLength}, unless allowShort is true`);
         }
         assert.deepEqual(hash.digest(), tag); // it goes on
       }
     }
     for (const [value, said] of [[1, "a number"], [null, "null"], ["yes", "a string"], [{}, "an object"]]) {
-      refuses(() => new Made({ key, allowShort: value }), TypeError,
+      assertRefused(() => new Made({ key, allowShort: value }), TypeError,
         `new ${Made.name}: allowShort must be a boolean, not ${said}`);
     }
     const plain = new Made({ digestLength: 8, allowShort: true });
@@ -353,20 +356,20 @@ testRefusals("memory that was taken away is refused", () => {
   for (const what of [
     (b) => b, (b) => new Uint8Array(b), (b) => new DataView(b, 1), (b) => new Uint16Array(b, 2, 2),
   ]) {
-    refuses(() => blake2b(taken(what)), TypeError, text("message"));
-    refuses(() => blake2b(M, { key: taken(what) }), TypeError, text("key"));
+    assertRefused(() => blake2b(taken(what)), TypeError, text("message"));
+    assertRefused(() => blake2b(M, { key: taken(what) }), TypeError, text("key"));
   }
   const buffer = new ArrayBuffer(20, { maxByteLength: 20 });
   const views = [new Uint8Array(buffer, 4, 12), new Uint8Array(buffer, 12), new DataView(buffer, 4, 12)];
   const follows = new Uint8Array(buffer, 2);
   buffer.resize(8);
-  for (const view of views) refuses(() => blake2b(view), TypeError, text("message"));
+  for (const view of views) assertRefused(() => blake2b(view), TypeError, text("message"));
   assert.deepEqual(blake2b(follows), blake2b(new Uint8Array(6)));
 });
 
 testRefusals("one argument more is refused, except by five calls that ignore it", async () => {
-  refuses(() => equal(M, M, undefined), TypeError, `equal: ${tooMany(3, 2)}`);
-  refuses(() => deriveKey(M, M, 9, undefined), TypeError, `deriveKey: ${tooMany(4, 3)}`);
+  assertRefused(() => equal(M, M, undefined), TypeError, `equal: ${tooMany(3, 2)}`);
+  assertRefused(() => deriveKey(M, M, 9, undefined), TypeError, `deriveKey: ${tooMany(4, 3)}`);
   for (const [Hash, ...calls] of [
     ...[Blake2b, Blake2s, Blake2bp, Blake2sp, TreeHash].map((Hash) => [Hash, ["hex"], ["verify", M], ["reset"]]),
     ...[Blake2xb, vulfsjor.Blake2xs].map((Hash) => [Hash, ["read", 9]]),
@@ -374,11 +377,11 @@ testRefusals("one argument more is refused, except by five calls that ignore it"
     const run = new Hash(Hash === TreeHash ? LEAF : {}).update(M);
     const before = run.copy();
     for (const [name, ...words] of [["update", M], ["copy"], ...calls]) {
-      refuses(() => run[name](...words, undefined), TypeError,
+      assertRefused(() => run[name](...words, undefined), TypeError,
         `${Hash.name}.${name}: ${tooMany(words.length + 1, words.length)}`);
     }
     if (run.digest) {
-      refuses(() => run.digest("hex"), TypeError,
+      assertRefused(() => run.digest("hex"), TypeError,
         `${Hash.name}.digest: too many arguments, 1 instead of at most 0; use hex() for hexadecimal digits`);
       assert.equal(run.copy().hex(), before.hex());
     }
@@ -480,7 +483,8 @@ const POLLUTED = `
   console.log([...results, await digestsOf()].join("\\n"));`;
 
 test("what other code gives to all objects is no option, no length, no state and no digest", () => {
-  const run = (isBefore) => printedBy(`const [INDEX, IS_BEFORE] = [${INDEX}, ${isBefore}];${POLLUTED}`).split("\n");
+  const run = (isBefore) =>
+    outputOfProgram(`const [INDEX, IS_BEFORE] = [${INDEX}, ${isBefore}];${POLLUTED}`).split("\n");
   const results = [...run(true), ...run(false)].filter(Boolean);
   assert.equal(results.length, 6);
   assert.equal(new Set(results).size, 1);
@@ -489,7 +493,7 @@ test("what other code gives to all objects is no option, no length, no state and
 });
 
 test("it works without SharedArrayBuffer and Blob, as in some browsers", () => {
-  const printed = printedBy(`delete globalThis.SharedArrayBuffer;
+  const printed = outputOfProgram(`delete globalThis.SharedArrayBuffer;
     delete globalThis.Blob;
     const { blake2b, blake2bStream, hex } = await import(${INDEX});
     const source = (async function* () { yield Uint8Array.of(97, 98, 99).buffer; })();
@@ -544,6 +548,6 @@ test("memory that code of the caller takes away during a call is no key of no by
     const message = newKey();
     assert.throws(() => hash(message, { ...more, get salt() { take(message); } }), TypeError);
     blake2b(M);
-    assertClean();
+    assertMemoriesAreWiped();
   }
 });

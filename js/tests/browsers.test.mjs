@@ -7,7 +7,7 @@ import { join } from "node:path";
 import test from "node:test";
 import { setTimeout as sleep } from "node:timers/promises";
 import { endBrowser, openChromium } from "./chromium.mjs";
-import { casesOf, hasCommand, HUGE, newFolder, serve, top } from "./common.mjs";
+import { conformanceCasesOf, hasCommand, HUGE, newFolder, serve, top } from "./common.mjs";
 import { HASHES } from "./conformance_driver.mjs";
 
 const CHECK = `const [vulfsjor, { tryCases }, texts] = await Promise.all([import("/index.js"),
@@ -68,7 +68,7 @@ try {
 </script>`;
 
 // Some of the conformance cases.
-const CASES = HASHES.map((hash) => casesOf(hash, HUGE ? 4 : 80));
+const CASES = HASHES.map((hash) => conformanceCasesOf(hash, HUGE ? 4 : 80));
 const COUNT = CASES.map((text) => text.match(/^case /gm).length);
 
 // Asserts that all cases were tried, and that most have not ended early.

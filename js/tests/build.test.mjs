@@ -8,7 +8,7 @@ import { cpSync, mkdirSync, readFileSync, statSync, writeFileSync } from "node:f
 import { join } from "node:path";
 import test from "node:test";
 import vm from "node:vm";
-import { bundle, shorten } from "../tools/bundle.mjs";
+import { bundle, stripCommentsAndIndentation } from "../tools/bundle.mjs";
 import { lower } from "../tools/memory32.mjs";
 import { newFolder, top } from "./common.mjs";
 
@@ -116,7 +116,7 @@ test("a bundle has what its modules export, and refuses forms that it does not k
     "export class Four {}\nconst five = 5;\nexport { five };\n");
   const good = write("good.js", 'import { two, three, five } from "./numbers.js";\n' +
     'import * as all from "./numbers.js";\n// a comment\nsend([two, three(), five, Object.keys(all)]);\n');
-  for (const script of [bundle(good), shorten(bundle(good))]) {
+  for (const script of [bundle(good), stripCommentsAndIndentation(bundle(good))]) {
     let sent;
     vm.runInNewContext(script, { send: (value) => (sent = value) });
     assert.deepEqual(JSON.parse(JSON.stringify(sent)), [2, 3, 5, ["two", "three", "Four", "five"]]);

@@ -31,9 +31,9 @@ for (const file of ["package.json", "index.js", "src"]) {
   cpSync(join(top, file), pathOf(`node_modules/vulfsjor/${file}`), { recursive: true });
 }
 // The same program by a path, for bundlers that resolve no names without a plugin.
-const byPath = (program) => program.replace('"vulfsjor"', '"./node_modules/vulfsjor/index.js"');
+const importByPath = (program) => program.replace('"vulfsjor"', '"./node_modules/vulfsjor/index.js"');
 writeFileSync(pathOf("app.mjs"), PROGRAM);
-writeFileSync(pathOf("path.mjs"), byPath(PROGRAM));
+writeFileSync(pathOf("path.mjs"), importByPath(PROGRAM));
 
 const run = promisify(execFile);
 // The words by which each bundler writes a format of a program into a file. Those of webpack are its defaults.
@@ -54,11 +54,12 @@ async function bundle(command, from, to, format = "esm", ...more) {
 }
 
 // A test that is skipped if there is no bundler of this name.
-const testOf = (command, name, work) => test(name, (t) => (hasCommand(command) ? work(t) : t.skip(`no ${command}`)));
+const testIfInstalled = (command, name, work) =>
+  test(name, (t) => (hasCommand(command) ? work(t) : t.skip(`no ${command}`)));
 
 // Each bundle is in a folder of its own with no other file.
 for (const [command, program] of [["esbuild", "app.mjs"], ["rollup", "path.mjs"]]) {
-  testOf(command, `bundles of ${command} start their workers in node`, async () => {
+  testIfInstalled(command, `bundles of ${command} start their workers in node`, async () => {
     await Promise.all(["esm", "iife", "cjs"].map(async (format) => {
       const file = `${command}-${format}/app.${format === "esm" ? "mjs" : "cjs"}`;
       await bundle(command, program, file, format);
@@ -73,7 +74,7 @@ const MOST = 47_000;
 const MOST_LONG = 80_000;
 
 // Asserts that a bundle of what a program imports has at most so many bytes, and prints this, if anything is given.
-async function assertSmall(command, [names, most, printed], program, ...more) {
+async function assertBundleSizeAndOutput(command, [names, most, printed], program, ...more) {
   const [from, to] = ["small.mjs", `${command}-small/app.mjs`];
   writeFileSync(pathOf(from), program);
   await bundle(command, from, to, "esm", ...more);
@@ -87,15 +88,15 @@ async function assertSmall(command, [names, most, printed], program, ...more) {
 for (const [command, how, most, form, ...more] of [
   ["esbuild", "esbuild", MOST, String, "--minify"],
   ["rollup", "rollup", MOST_LONG, String, "--plugin", "node-resolve"],
-  ["rollup", "rollup without a plugin", MOST_LONG, byPath], ["webpack", "webpack", MOST, String],
+  ["rollup", "rollup without a plugin", MOST_LONG, importByPath], ["webpack", "webpack", MOST, String],
 ]) {
-  testOf(command, `a bundle by ${how} has only the hash that its program imports`, async (t) => {
+  testIfInstalled(command, `a bundle by ${how} has only the hash that its program imports`, async (t) => {
     // hashlib's digests of abc
     for (const [name, wanted] of [["blake2b", "99,144,98,72\n"], ["blake2s", "223,113,1,211\n"]]) {
       const program = form(`import { ${name} } from "vulfsjor";
         console.log(${name}(Uint8Array.of(97, 98, 99), { digestLength: 4 }).join());`);
       try {
-        await assertSmall(command, [name, most, wanted], program, ...more);
+        await assertBundleSizeAndOutput(command, [name, most, wanted], program, ...more);
       } catch (fault) {
         if (!/Cannot find package|Cannot load plugin/.test(fault.stderr)) throw fault;
         return t.skip(`${command} has no plugin that finds packages`);
@@ -104,8 +105,8 @@ for (const [command, how, most, form, ...more] of [
   });
 }
 
-testOf("esbuild", "other programs get what they import, too", async () => {
-  const assertSize = (names, most) => assertSmall("esbuild", [names, most],
+testIfInstalled("esbuild", "other programs get what they import, too", async () => {
+  const assertSize = (names, most) => assertBundleSizeAndOutput("esbuild", [names, most],
     `import { ${names} } from "vulfsjor"; console.log(${names});`, "--minify");
   for (const [names, most] of [
     ["hex, utf8, fromHex", 5_000], ["Blake2b", 57_000], ["Blake2s", 57_000], ["blake2bStream", 61_000],
@@ -148,7 +149,7 @@ async function assertPages(t, pages) {
 
 const NO_WORKER = /^Error: it could not be started$/;
 
-testOf("esbuild", "workers start in Chromium with esbuild and without, or one thread hashes", async (t) => {
+testIfInstalled("esbuild", "workers start in Chromium with esbuild and without, or one thread hashes", async (t) => {
   await Promise.all([
     bundle("esbuild", "app.mjs", "alone/app.mjs"), bundle("esbuild", "app.mjs", "alone/app.js", "iife"),
     bundle("esbuild", "app.mjs", "beside/app.mjs"),
@@ -168,7 +169,7 @@ testOf("esbuild", "workers start in Chromium with esbuild and without, or one th
 });
 
 // The module makes a bundle larger than webpack recommends.
-testOf("webpack", "webpack finds the file of the worker", async (t) => {
+testIfInstalled("webpack", "webpack finds the file of the worker", async (t) => {
   await bundle("webpack", "app.mjs", "webpack/app.js", "iife", "--no-performance");
   await assertPages(t, [
     ["webpack", "script", "none given"], ["webpack", "script", "blob:"],

@@ -36,7 +36,7 @@ export function assertZeros(bytes, what) {
 }
 
 /** Asserts that nothing is left in the library's memories, and that they have not grown. */
-export function assertClean(what = "after a call") {
+export function assertMemoriesAreWiped(what = "after a call") {
   const all = memories();
   assert.ok(all.length > 0, "no memory");
   for (const bytes of all) {
@@ -46,7 +46,7 @@ export function assertClean(what = "after a call") {
 }
 
 /** The result of some work during which an object has other properties. It may be a promise. */
-export function withOthers(object, others, work) {
+export function withReplacedProperties(object, others, work) {
   const before = Object.keys(others).map((name) => [name, Object.getOwnPropertyDescriptor(object, name)]);
   const restore = () => before.forEach(([name, descriptor]) =>
     (descriptor ? Object.defineProperty(object, name, descriptor) : delete object[name]));
@@ -64,7 +64,7 @@ export function withOthers(object, others, work) {
 }
 
 /** The result of some work. Notes the states that it writes. The call of set or fill with this number throws. */
-export function noteStates(states, work, number = -1) {
+export function recordStatesWritten(states, work, number = -1) {
   let count = 0;
   const noting = (builtIn) => function (...words) {
     if (this.buffer.byteLength === SLAB) states.add(this);
@@ -72,7 +72,7 @@ export function noteStates(states, work, number = -1) {
     return Reflect.apply(builtIn, this, words);
   };
   const { fill, set } = Uint8Array.prototype;
-  return withOthers(Uint8Array.prototype, { fill: noting(fill), set: noting(set) }, work);
+  return withReplacedProperties(Uint8Array.prototype, { fill: noting(fill), set: noting(set) }, work);
 }
 
 const folders = [];
@@ -95,7 +95,7 @@ export function newFolder() {
 }
 
 /** A file of a message that is open in node until the end of a test, and its path and its folder. */
-export async function openFile(t, message) {
+export async function newOpenFile(t, message) {
   const folder = newFolder();
   const path = join(folder, "message");
   writeFileSync(path, message);
@@ -107,7 +107,7 @@ export async function openFile(t, message) {
 let written = process.env.VULFSJOR_CONFORMANCE;
 
 /** The conformance cases of a hash, all or each one of so many. They are written if ./test has not done so. */
-export function casesOf(hash, each = 1) {
+export function conformanceCasesOf(hash, each = 1) {
   if (!written) {
     written = newFolder();
     execFileSync("python3", [join(top, "../tests/conformance/write.py"), written]);
@@ -119,7 +119,7 @@ export function casesOf(hash, each = 1) {
 export const hasCommand = (command) => spawnSync(command, ["--version"]).error === undefined;
 
 /** What a program prints that is run as a module by a new node. */
-export const printedBy = (program, options) => execFileSync(
+export const outputOfProgram = (program, options) => execFileSync(
   process.execPath, ["--input-type=module", "-e", program], { encoding: "utf8", ...options });
 
 /** The address of the package, as a word of such a program. */

@@ -5,7 +5,7 @@ import { execFileSync } from "node:child_process";
 import { join } from "node:path";
 import test from "node:test";
 import * as vulfsjor from "../index.js";
-import { assertClean, casesOf, HUGE, top } from "./common.mjs";
+import { assertMemoriesAreWiped, conformanceCasesOf, HUGE, top } from "./common.mjs";
 import { HASHES, tryCases } from "./conformance_driver.mjs";
 
 // How many cases end at a call that the package does not have.
@@ -14,8 +14,8 @@ const SKIPPED = { blake2b: 155, blake2s: 151, blake2bp: 0, blake2sp: 0, blake2xb
 for (const hash of HASHES) {
   test(`the conformance cases of ${hash}`, () => {
     let count = 0;
-    const isClean = (name) => count++ % 7 === 1 && assertClean(`a call of ${name}`);
-    const { cases, skipped, wrong } = tryCases(vulfsjor, casesOf(hash), isClean);
+    const isClean = (name) => count++ % 7 === 1 && assertMemoriesAreWiped(`a call of ${name}`);
+    const { cases, skipped, wrong } = tryCases(vulfsjor, conformanceCasesOf(hash), isClean);
     assert.deepEqual(wrong.slice(0, 5), []);
     assert.deepEqual([cases > 1000, skipped], [true, SKIPPED[hash]]);
   });

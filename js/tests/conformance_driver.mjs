@@ -34,7 +34,7 @@ const ofDigits = (digits) =>
   Uint8Array.from({ length: digits.length / 2 }, (_, i) => parseInt(digits.substr(2 * i, 2), 16));
 
 /** A view of the bytes of a view or a buffer. */
-const plain = (bytes) => (ArrayBuffer.isView(bytes)
+const asByteView = (bytes) => (ArrayBuffer.isView(bytes)
   ? new Uint8Array(bytes.buffer, bytes.byteOffset, bytes.byteLength) : new Uint8Array(bytes));
 
 function isSame(a, b) {
@@ -180,7 +180,7 @@ class Driver {
     const length = message?.byteLength ?? 0;
     if (message === null) hash.update(message);
     for (let at = 0, size = 9; at < length; at += size, size = Math.ceil(length / 2)) {
-      hash.update(plain(message).subarray(at, at + size));
+      hash.update(asByteView(message).subarray(at, at + size));
     }
     return "read" in hash ? hash.read(options.outputLength) : hash.digest();
   }
@@ -205,7 +205,7 @@ function outcomeOf(driver, call) {
   passed.length = 0;
   try {
     const value = driver[verb](words.filter((word) => !isOption(word)), given);
-    for (const [view, bytes] of passed) check(isSame(plain(view), bytes), "an argument has changed");
+    for (const [view, bytes] of passed) check(isSame(asByteView(view), bytes), "an argument has changed");
     if (!(value instanceof Uint8Array)) return value === undefined ? "" : `= ${value}`;
     check(value.buffer.byteLength === value.length, "a part of a larger buffer");
     const digits = hexOf(value);
@@ -214,7 +214,7 @@ function outcomeOf(driver, call) {
   } catch (error) {
     return error;
   } finally {
-    for (const [view] of passed) plain(view).fill(0x5a);
+    for (const [view] of passed) asByteView(view).fill(0x5a);
   }
 }
 

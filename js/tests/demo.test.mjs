@@ -41,7 +41,7 @@ async function openPage(chromium, options) {
 }
 
 // A test over the page, which has logged no error at the end, except where its policy is tried.
-const onPage = (name, options, work) => test(name, options, async (t) => {
+const testOnPage = (name, options, work) => test(name, options, async (t) => {
   const chromium = await openChromium();
   if (chromium === undefined) return t.skip("no chromium");
   const page = await openPage(chromium, options);
@@ -63,7 +63,7 @@ const CARDS = `[...document.querySelectorAll("article")].map((card) => ({
 }))`;
 
 // The digests by node's BLAKE2. The root is the package's, which other tests compare with hashlib.
-function wantedOf(name, leafLength) {
+function expectedDigestsOf(name, leafLength) {
   const message = readFileSync(pathOf(name));
   return {
     "BLAKE2b-512": createHash("blake2b512").update(message).digest("hex"),
@@ -72,7 +72,7 @@ function wantedOf(name, leafLength) {
   };
 }
 
-onPage("files are hashed and shown", {}, async (page) => {
+testOnPage("files are hashed and shown", {}, async (page) => {
   await page.hash(Object.keys(FILES));
   const cards = await page.evaluate(CARDS);
   assert.deepEqual(cards.map(({ name }) => name), Object.keys(FILES).reverse());
@@ -80,7 +80,7 @@ onPage("files are hashed and shown", {}, async (page) => {
   for (const { name, digests, shown } of cards) {
     assert.deepEqual(Object.keys(digests), KINDS);
     const { "BLAKE2b-256": short, ...others } = digests;
-    assert.deepEqual(others, wantedOf(name, 65536), name);
+    assert.deepEqual(others, expectedDigestsOf(name, 65536), name);
     assert.match(short, /^[0-9a-f]{64}$/);
     assert.match(shown, /^done in \d+(\.\d\d)? s$/);
   }
@@ -109,7 +109,7 @@ const VERDICT = "document.getElementById('verdict').textContent";
 const LINES = "[...document.querySelectorAll('#lines li')].map((line) => line.innerText.split('\\n'))";
 
 
-onPage("expected digests and manifests are compared, with digests of all lengths", {}, async (page) => {
+testOnPage("expected digests and manifests are compared, with digests of all lengths", {}, async (page) => {
   const { compare } = page;
   assert.equal(await compare("0".repeat(64)), "No file has been hashed yet. 0");
   assert.equal(await compare(MANIFEST), "8 digests: 8 no such file below. 0");
@@ -207,7 +207,7 @@ onPage("expected digests and manifests are compared, with digests of all lengths
   assert.equal(await compare(digest), "Equal to the BLAKE2s-256 of empty.txt and to the BLAKE2s-256 of empty.txt. 2");
 });
 
-onPage("what is chosen is computed, of files that are dropped too, and is copied", LONG, async (page) => {
+testOnPage("what is chosen is computed, of files that are dropped too, and is copied", LONG, async (page) => {
   const isOver = () => page.evaluate("document.getElementById('drop').matches('.over')");
   const isUnchosen = () => page.evaluate("!document.getElementById('choose').hidden");
   await page.evaluate(`{
@@ -228,7 +228,7 @@ onPage("what is chosen is computed, of files that are dropped too, and is copied
   assert.equal(await isOver(), false);
   await page.until("document.querySelectorAll('[data-state=done]').length === 1");
   const [{ digests }] = await page.evaluate(CARDS);
-  const { "BLAKE2b-512": _, ...wanted } = wantedOf(name, 4096);
+  const { "BLAKE2b-512": _, ...wanted } = expectedDigestsOf(name, 4096);
   assert.deepEqual(digests, wanted);
   assert.equal(await isUnchosen(), false);
   await page.evaluate(`{
@@ -247,7 +247,7 @@ onPage("what is chosen is computed, of files that are dropped too, and is copied
   assert.deepEqual(await page.evaluate("copied"), [wanted["BLAKE2s-256"], `copy ${wanted["tree root"]}`]);
 });
 
-onPage("files are stopped while hashed or waiting, and a changed one is reported", {}, async (page) => {
+testOnPage("files are stopped while hashed or waiting, and a changed one is reported", {}, async (page) => {
   writeFileSync(pathOf("large.img"), "");
   truncateSync(pathOf("large.img"), 3_000_000_000);
   await page.choose("large.img");
@@ -307,7 +307,9 @@ test("a page that cannot hash says why, and hashes nothing", LONG, async (t) => 
   }
 });
 
-onPage("the page is readable, has names for its controls, and connects to nothing", { width: 320 }, async (page, t) => {
+testOnPage("the page is readable, has names for its controls, and connects to nothing", { width: 320 }, async (
+  page, t,
+) => {
   await page.hash(["one byte"]);
   assert.equal(await page.evaluate("document.documentElement.scrollWidth <= innerWidth"), true);
   await page.evaluate("document.querySelector('.badge').click()");

@@ -6,7 +6,7 @@ import { open } from "node:fs/promises";
 import { join } from "node:path";
 import test from "node:test";
 import * as vulfsjor from "../index.js";
-import { assertClean, LONG as FULL, newFolder } from "./common.mjs";
+import { assertMemoriesAreWiped, LONG as FULL, newFolder } from "./common.mjs";
 
 const { equal, hex, treeLeaves, treeRootOfLeaves, treeRootStream } = vulfsjor;
 const SIZE = 2 ** 32; // the longest array of node 20
@@ -73,7 +73,7 @@ test("messages of 2^32 bytes and more", FULL, async (t) => {
     const one = name === "TreeHash" ? "treeRoot" : name.replace("B", "b");
     await t.test(`${name} ${options.leafLength ?? ""}`, async () => {
       assert.equal(hex(vulfsjor[one](message, options)), first);
-      assertClean(name);
+      assertMemoriesAreWiped(name);
       const run = new vulfsjor[name](options).update(message);
       assert.equal(run.copy().hex(), first);
       assert.equal(run.update(tail).hex(), all);
@@ -81,7 +81,7 @@ test("messages of 2^32 bytes and more", FULL, async (t) => {
       const byThreads = name === "TreeHash" && { threads: 0 };
       const stream = vulfsjor[`${one}Stream`](sources[one](), { ...options, ...byThreads, onProgress });
       assert.equal(hex(await stream), all);
-      assertClean(name);
+      assertMemoriesAreWiped(name);
       if (!byThreads) return;
       assert.equal(hex(await treeRootStream(handle, { ...options, ...byThreads })), all);
       const leaves = treeLeaves(message, { leafLength: options.leafLength, first: 0, ends: true });
@@ -96,7 +96,7 @@ test("messages of 2^32 bytes and more", FULL, async (t) => {
     vulfsjor.Blake2b.updateMany(runs, [tail, tail]);
     assert.equal(runs[1].hex(), WANTED[0][3]);
     assert.equal(hex(treeRootOfLeaves(message, treeOf(5))), ROOT);
-    assertClean();
+    assertMemoriesAreWiped();
     const other = sparseMessage();
     assert.equal(equal(message, other), true);
     other[SIZE - 1] ^= 1;

@@ -20,16 +20,16 @@ const drawn = new Uint8Array(new ArrayBuffer(length));
 const tag = new Uint8Array(key.length);
 const short = utf8("a short message");
 const long = new Uint8Array(1000).fill(3);
-const ofBoth = (end) => [short, long].forEach((message) => end(new call({ key }).update(message)));
+const forBothLengths = (end) => [short, long].forEach((message) => end(new call({ key }).update(message)));
 const actions = {
   "a key that is not forgotten": () => {},
   "one call": () => [short, long].forEach((message) => call(message, { key })),
   "one call in the heap": () => call(short, { key }),
   "digest in the heap": () => new call({ key }).update(short).digest(),
   "blake2bMany": () => blake2bMany([short, long, long, long, long], { key }),
-  "digest": () => ofBoth((run) => run.digest()),
+  "digest": () => forBothLengths((run) => run.digest()),
   "empty digest": () => new call({ key }).digest(),
-  "verify": () => ofBoth((run) => assert.throws(() => run.verify(tag), InvalidTagError)),
+  "verify": () => forBothLengths((run) => assert.throws(() => run.verify(tag), InvalidTagError)),
   "copy and reset": () => {
     const run = new call({ key });
     run.update(long).copy().update(short).digest();

@@ -40,7 +40,7 @@ function countPieces(pid, key) {
   return count;
 }
 
-async function piecesAfter(form) {
+async function countKeyPiecesAfter(form) {
   const child = spawn(process.execPath, [program, form], { stdio: ["pipe", "pipe", "inherit"] });
   let text = "";
   for await (const chunk of child.stdout) {
@@ -70,7 +70,7 @@ test("pieces of a key in the memory of the process", async (t) => {
   if (process.platform !== "linux") return t.skip("no /proc");
   let found;
   try {
-    found = await piecesAfter("a key that is not forgotten");
+    found = await countKeyPiecesAfter("a key that is not forgotten");
   } catch (fault) {
     if (!/^(EACCES|EPERM)$/.test(fault.code)) throw fault;
     return t.skip("the memory of a child cannot be read");
@@ -78,7 +78,7 @@ test("pieces of a key in the memory of the process", async (t) => {
   assert.ok(found >= 8, `${found} pieces of a key that is there`);
   for (const form of FORMS) {
     await t.test(form, async () => {
-      const count = await piecesAfter(form);
+      const count = await countKeyPiecesAfter(form);
       t.diagnostic(`${form}: ${count}`);
       assert.equal(count, 0);
     });

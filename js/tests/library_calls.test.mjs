@@ -12,7 +12,7 @@ import * as engine from "../src/engine.js";
 import { Hasher, updateMany } from "../src/hashers.js";
 import { partOfPlan, planOf } from "../src/leaves.js";
 import * as whole from "../src/whole_module.js";
-import { assertClean, assertZeros, withOthers } from "./common.mjs";
+import { assertMemoriesAreWiped, assertZeros, withReplacedProperties } from "./common.mjs";
 
 const calls = [];
 const passed = {}; // all arguments of the last call of a function
@@ -20,19 +20,19 @@ const refusal = {}; // the name of a function that refuses, and the memory of th
 const { Instance } = WebAssembly;
 const { WAITING } = engine;
 // The place of the argument that says how much a function is given.
-const placeOf = (name) => ({ memcmp: 1, tree_leaves: 5, tree_root_of_leaves: 3 })[name] ??
+const indexOfLengthArgument = (name) => ({ memcmp: 1, tree_leaves: 5, tree_root_of_leaves: 3 })[name] ??
   (/_update$/.test(name) ? 2 : /_many$/.test(name) ? 4 : /^blake2[bs]p?$/.test(name) ? 3 : undefined);
 const PLANS = /tree_(plan|part)$/; // not noted
 
 // Instances whose functions note their name and the argument that says how much they are given.
-class Noting {
+class RecordingInstance {
   constructor(...words) {
     const { exports } = new Instance(...words);
     this.exports = Object.fromEntries(Object.entries(exports).map(([name, value]) => {
       if (typeof value !== "function" || PLANS.test(name)) return [name, value];
       return [name, (...given) => {
         const called = name.replace("vulfsjor_ffi_", "");
-        calls.push(`${called} ${given[placeOf(called)] ?? ""}`.trim());
+        calls.push(`${called} ${given[indexOfLengthArgument(called)] ?? ""}`.trim());
         passed[called] = given;
         if (called !== refusal.name) return value(...given);
         refusal.memory = exports.memory.buffer;
@@ -48,7 +48,7 @@ const testWithNewModules = (name, work) => test(name, (t) => {
     Object.assign(module, { current: undefined, initial: Object.create(null) }));
   t.after(renew);
   renew();
-  return withOthers(WebAssembly, { Instance: Noting }, work);
+  return withReplacedProperties(WebAssembly, { Instance: RecordingInstance }, work);
 });
 
 const PIECE = 65536;
@@ -56,11 +56,11 @@ const WINDOW = 8 * 65536 - 8192;
 const message = new Uint8Array(2 * WINDOW);
 const part = (length) => message.subarray(0, length);
 // The updates of a message that is longer than a piece.
-const updates = (name, length) => [
+const updateCallsFor = (name, length) => [
   ...Array(Math.floor(length / PIECE)).fill(`${name}_update ${PIECE}`), `${name}_update ${length % PIECE}`];
 
 // Some work in which a function of the library refuses.
-const whileRefused = (name, work) => withOthers(refusal, { name }, work);
+const whileLibraryRefuses = (name, work) => withReplacedProperties(refusal, { name }, work);
 
 // Asserts the calls of some work.
 function assertCalls(work, ...wanted) {
@@ -73,14 +73,14 @@ testWithNewModules("a message is one call, or updates by pieces", () => {
   assertCalls(() => blake2b(part(PIECE)), `blake2b ${PIECE}`);
   assertCalls(() => blake2s(part(3), { key: part(1) }), "blake2s 3");
   assertCalls(() => blake2s(part(PIECE + 1)),
-    "blake2s_init_salt_personal", ...updates("blake2s", PIECE + 1), "blake2s_final");
+    "blake2s_init_salt_personal", ...updateCallsFor("blake2s", PIECE + 1), "blake2s_final");
   assertCalls(() => blake2b(part(3), { salt: part(1) }),
     "blake2b_init_salt_personal", "blake2b_update 3", "blake2b_final");
   assertCalls(() => blake2b(part(3), { personalization: part(1), tree: { lastNode: true } }),
     "blake2b_init_tree", "blake2b_set_last_node", "blake2b_update 3", "blake2b_final");
   assertCalls(() => blake2bp(part(PIECE), { key: part(64) }), `blake2bp ${PIECE}`);
   assertCalls(() => blake2bp(part(PIECE + 1)),
-    "blake2bp_init_salt_personal", ...updates("blake2bp", PIECE + 1), "blake2bp_final");
+    "blake2bp_init_salt_personal", ...updateCallsFor("blake2bp", PIECE + 1), "blake2bp_final");
   assertCalls(() => blake2sp(part(3), { salt: part(1) }),
     "blake2sp_init_salt_personal", "blake2sp_update 3", "blake2sp_final");
 });
@@ -100,7 +100,7 @@ testWithNewModules("several messages are passed in whole groups that fill window
   assertCalls(() => blake2sMany(several(9, 100_000)), "blake2s_many 5", "blake2s_many 4");
   assertCalls(() => blake2bMany([part(WINDOW), part(WINDOW - 1), part(1)]), "blake2b_many 1", "blake2b_many 2");
   assertCalls(() => blake2bMany([part(WINDOW + 1), part(1)]),
-    "blake2b_init_salt_personal", ...updates("blake2b", WINDOW + 1), "blake2b_final", "blake2b_many 1");
+    "blake2b_init_salt_personal", ...updateCallsFor("blake2b", WINDOW + 1), "blake2b_final", "blake2b_many 1");
 });
 
 testWithNewModules("leaves are passed as many as fit into the window with their digests", () => {
@@ -108,11 +108,11 @@ testWithNewModules("leaves are passed as many as fit into the window with their 
   const most = Math.floor(WINDOW / (100 + 64) / 4) * 4 * 100; // whole groups
   assertCalls(() => leaves(2 * most + 1, 100), `tree_leaves ${most}`, `tree_leaves ${most}`, "tree_leaves 1");
   assertCalls(() => leaves(WINDOW - 64, WINDOW - 64), `tree_leaves ${WINDOW - 64}`);
-  const long = ["tree_init_leaf", ...updates("blake2b", WINDOW - 63), "blake2b_final"];
+  const long = ["tree_init_leaf", ...updateCallsFor("blake2b", WINDOW - 63), "blake2b_final"];
   assertCalls(() => leaves(2 * (WINDOW - 63), WINDOW - 63), ...long, ...long);
   const root = (length) => treeRootOfLeaves(part(length), { leafLength: 5 });
   assertCalls(() => root(WINDOW), `tree_root_of_leaves ${WINDOW}`);
-  assertCalls(() => root(WINDOW + 64), "tree_init_root", ...updates("blake2b", WINDOW + 64), "blake2b_final");
+  assertCalls(() => root(WINDOW + 64), "tree_init_root", ...updateCallsFor("blake2b", WINDOW + 64), "blake2b_final");
 });
 
 testWithNewModules("equal compares halves of the window", () => {
@@ -173,7 +173,7 @@ testWithNewModules("a piece that is too long is refused before any hash absorbs"
   const [first, late] = [make().update(part(3)), make().update(part(WAITING)).update(part(WAITING))];
   const wanted = [first, late].map((hash) => hash.copy().update(part(WAITING)).hex());
   const both = () => updateMany(kind, "Blake2b", [first, late], [part(WAITING), part(WAITING)], 0);
-  whileRefused("blake2b_update", () => {
+  whileLibraryRefuses("blake2b_update", () => {
     for (const work of [both, both]) {
       assertCalls(() => assert.throws(work,
         { name: "RangeError", message: "Blake2b.updateMany: hash 1: the message is too long" }),
@@ -184,7 +184,7 @@ testWithNewModules("a piece that is too long is refused before any hash absorbs"
   assert.deepEqual([first, late].map((hash) => hash.hex()), wanted);
   // what the library refuses after all that ends the hashes
   const hashes = [new Blake2b(), new Blake2b()];
-  whileRefused("blake2b_update", () => assert.throws(() => Blake2b.updateMany(hashes, [part(PIECE), part(1)]),
+  whileLibraryRefuses("blake2b_update", () => assert.throws(() => Blake2b.updateMany(hashes, [part(PIECE), part(1)]),
     { name: "Error", message: "vulfsjor: the library refused a call" }));
   for (const hash of hashes) assert.throws(() => hash.hex(), /has ended, by .* or a failed call$/);
 });
@@ -221,7 +221,7 @@ testWithNewModules("what waits is never refused, and what may be refused does no
   assertCalls(() => run.update(part(1)), "blake2b_update 1"); // now each is a call
   assertCalls(() => run.update(part(0)), "blake2b_update 0");
   for (const each of [run, run.copy()]) {
-    whileRefused("blake2b_update", () => assert.throws(() => each.update(part(1)),
+    whileLibraryRefuses("blake2b_update", () => assert.throws(() => each.update(part(1)),
       { name: "RangeError", message: "Blake2b.update: the message is too long" }));
   }
   assertCalls(() => run.copy().digest(), "blake2b_final");
@@ -251,7 +251,7 @@ testWithNewModules("what the library refuses is an error, and the memory is give
     ["blake2b_update", () => blake2b(part(PIECE + 1)), "vulfsjor: the message is too long"],
   ]) {
     refusal.memory = undefined;
-    whileRefused(name, () => assert.throws(work, { name: "Error", message }, name));
+    whileLibraryRefuses(name, () => assert.throws(work, { name: "Error", message }, name));
     assertZeros(new Uint8Array(refusal.memory), name);
     assert.ok(engine.memories().every(({ buffer }) => buffer !== refusal.memory), name);
   }
@@ -262,9 +262,9 @@ testWithNewModules("an update that is too long changes nothing", () => {
     const wanted = new Hasher().update(part(3)).hex();
     for (const length of [WAITING - 2, PIECE + 1, 2 * PIECE]) {
       const run = new Hasher().update(part(3));
-      whileRefused(`${Hasher.name.toLowerCase()}_update`, () => assert.throws(() => run.update(part(length)),
+      whileLibraryRefuses(`${Hasher.name.toLowerCase()}_update`, () => assert.throws(() => run.update(part(length)),
         { name: "RangeError", message: `${Hasher.name}.update: the message is too long` }));
-      assertClean();
+      assertMemoriesAreWiped();
       assert.equal(run.hex(), wanted);
     }
   }
@@ -305,9 +305,9 @@ testWithNewModules("states have the library's sizes", () => {
 testWithNewModules("plans of ranges leave nothing in the memory", () => {
   const plan = planOf(10_000, 7, 100, 1000);
   assert.ok(plan.count > 1);
-  assertClean("planOf");
+  assertMemoriesAreWiped("planOf");
   assert.ok(partOfPlan(plan, 1).length > 0);
-  assertClean("partOfPlan");
+  assertMemoriesAreWiped("partOfPlan");
 });
 
 testWithNewModules("a memory that could not be wiped is wiped before the next call", () => {
@@ -315,7 +315,7 @@ testWithNewModules("a memory that could not be wiped is wiped before the next ca
   blake2b(key);
   const { bytes } = BLAKE2B.module.current;
   const fill = () => { throw new RangeError("no stack is left"); };
-  withOthers(Uint8Array.prototype, { fill }, () => whileRefused("blake2b", () =>
+  withReplacedProperties(Uint8Array.prototype, { fill }, () => whileLibraryRefuses("blake2b", () =>
     assert.throws(() => blake2b(key, { key }), /no stack is left/)));
   assert.ok(bytes.includes(7));
   blake2b(key);

@@ -16,7 +16,7 @@ import { LEAF_DIGEST } from "../src/leaves.js";
 import { MOST_THREADS } from "../src/platform.js";
 import { LONGEST_LEAF } from "../src/threads.js";
 import { TREE } from "../src/whole_module.js";
-import { INDEX, hasCommand, newFolder, top, withOthers } from "./common.mjs";
+import { INDEX, hasCommand, newFolder, top, withReplacedProperties } from "./common.mjs";
 
 const read = (path) => readFileSync(join(top, path), "utf8");
 
@@ -93,7 +93,7 @@ for (const [page, count] of [["README.md", 6], ["../README.md", 1]]) {
       assert.ok(wanted.length > 0, block);
       const printed = [];
       const program = encodeURIComponent(block.replace('"vulfsjor"', INDEX));
-      await withOthers(console, { log: (...words) => printed.push(format(...words)) }, () =>
+      await withReplacedProperties(console, { log: (...words) => printed.push(format(...words)) }, () =>
         import(`data:text/javascript,${program}`));
       assert.deepEqual(printed, wanted);
     }

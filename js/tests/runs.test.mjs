@@ -8,7 +8,10 @@ import * as vulfsjor from "../index.js";
 import { BLAKE2B } from "../src/blake2b.js";
 import { SLAB, memories } from "../src/engine.js";
 import { BLAKE2XB } from "../src/whole_module.js";
-import { assertClean, assertZeros, collect, hexOf, INDEX, noteStates, printedBy, withOthers } from "./common.mjs";
+import {
+  assertMemoriesAreWiped, assertZeros, collect, hexOf, INDEX, outputOfProgram, recordStatesWritten,
+  withReplacedProperties,
+} from "./common.mjs";
 
 const {
   Blake2b, Blake2bp, Blake2s, Blake2sp, Blake2xb, Blake2xs, InvalidTagError, TreeHash, blake2b, blake2bMany, blake2bp,
@@ -24,9 +27,9 @@ const HASHERS = [
   [Blake2sp, { key: KEY, salt: M, personalization: M }], [TreeHash, { leafLength: 5, salt: M }],
 ];
 const OUTPUTS = [[Blake2xb, { key: KEY }], [Blake2xs, {}]];
-const isSmall = (Hash) => /2x?s/.test(Hash.name);
-const isState = (bytes) => bytes.some((byte) => byte !== 0);
-const statesLeft = (states) => [...states].filter(isState).length;
+const isBlake2sFamily = (Hash) => /2x?s/.test(Hash.name);
+const hasNonzeroByte = (bytes) => bytes.some((byte) => byte !== 0);
+const countStatesNotWiped = (states) => [...states].filter(hasNonzeroByte).length;
 
 test("a run that has ended refuses all but wipe", () => {
   for (const [Hash, options] of [...HASHERS, ...OUTPUTS]) {
@@ -42,9 +45,9 @@ test("a run that has ended refuses all but wipe", () => {
         assert.throws(() => run[call](...words), { name: "TypeError", message });
       }
       run.wipe();
-      assert.equal(run.blockLength, isSmall(Hash) ? 64 : 128);
+      assert.equal(run.blockLength, isBlake2sFamily(Hash) ? 64 : 128);
       if (isOutput) assert.throws(() => run.left, { message: /: this output was wiped, or a call failed$/ });
-      else assert.equal(run.digestLength, options.digestLength ?? (isSmall(Hash) ? 32 : 64));
+      else assert.equal(run.digestLength, options.digestLength ?? (isBlake2sFamily(Hash) ? 32 : 64));
     }
   }
 });
@@ -116,7 +119,7 @@ test("a stack that is full ends a call, and not the library", () => {
     for (let count = 0; count < (seen.size > 3 ? 1 : 16); count++, passed = 0) shift(count);
     assert.ok(refused > 10, `${refused}`);
     assert.equal(hexOf(blake2b(M)), wanted);
-    assertClean();
+    assertMemoriesAreWiped();
   }
   // some calls have ended inside the library, whose memory was wiped and given up
   assert.ok(seen.size > 3, `${seen.size} memories`); // more than one of a module
@@ -124,9 +127,9 @@ test("a stack that is full ends a call, and not the library", () => {
 });
 
 // Whether some work fails in which the call of fill or set with this number throws.
-function failsAt(number, states, work) {
+function failsAtWrite(number, states, work) {
   try {
-    noteStates(states, work, number);
+    recordStatesWritten(states, work, number);
     return false;
   } catch (fault) {
     if (fault.message !== "no stack is left" && !(fault instanceof InvalidTagError)) throw fault;
@@ -147,8 +150,8 @@ test("a call that fails anywhere ends its object, and wipe reaches what it has l
     let count = 0;
     for (let hasFailed = true; hasFailed; count++) {
       const states = new Set();
-      const run = noteStates(states, make);
-      hasFailed = failsAt(count, states, () => work(run));
+      const run = recordStatesWritten(states, make);
+      hasFailed = failsAtWrite(count, states, () => work(run));
       if (hasFailed) {
         for (const call of ["copy", "update"]) {
           assert.throws(() => run[call](M), /too many|has ended, by|was wiped, or a call failed/, String(work));
@@ -159,23 +162,23 @@ test("a call that fails anywhere ends its object, and wipe reaches what it has l
         assertZeros([...states][0].subarray(BLAKE2B.stateLength), "what waits");
       }
       if (isOpen || hasFailed) run.wipe(); // which the ends of a hash do themselves
-      if (make !== tree) assert.equal(statesLeft(states), 0, `${work} ${count}`);
+      if (make !== tree) assert.equal(countStatesNotWiped(states), 0, `${work} ${count}`);
       blake2bp(M); // the memory is wiped before the next call at the latest
       blake2b(M);
-      assertClean();
+      assertMemoriesAreWiped();
     }
     assert.ok(count >= 4, `${count} calls of fill and set by ${work}`);
   }
   for (const end of ["wipe", DISPOSE]) {
     const states = new Set();
-    const run = noteStates(states, () => output().copy().copy());
-    assert.equal(statesLeft(states), 3);
-    noteStates(states, () => run[end]());
-    assert.equal(statesLeft(states), 2);
+    const run = recordStatesWritten(states, () => output().copy().copy());
+    assert.equal(countStatesNotWiped(states), 3);
+    recordStatesWritten(states, () => run[end]());
+    assert.equal(countStatesNotWiped(states), 2);
   }
   const states = new Set();
-  noteStates(states, () => deriveKey(KEY, M, 64));
-  assert.deepEqual([states.size, statesLeft(states)], [1, 0]);
+  recordStatesWritten(states, () => deriveKey(KEY, M, 64));
+  assert.deepEqual([states.size, countStatesNotWiped(states)], [1, 0]);
 });
 
 test("a copy or a short update that fails leaves its hash as it was, and nothing behind", () => {
@@ -186,7 +189,7 @@ test("a copy or a short update that fails leaves its hash as it was, and nothing
   const wanted = new Blake2b({ key: KEY }).update(M).hex();
   for (const work of [(run) => run.update(M), (run) => run.copy()]) {
     for (const run of [new Blake2b({ key: KEY }).update(M), strange(Strange)]) {
-      assert.ok(failsAt(0, new Set(), () => work(run)));
+      assert.ok(failsAtWrite(0, new Set(), () => work(run)));
       assert.equal(run.hex(), wanted);
     }
   }
@@ -197,12 +200,12 @@ test("a copy or a short update that fails leaves its hash as it was, and nothing
   ]) {
     const run = strange(other);
     const states = new Set();
-    noteStates(states, () => assert.throws(() => run.copy(), { message }));
-    assert.equal(statesLeft(states), 0);
+    recordStatesWritten(states, () => assert.throws(() => run.copy(), { message }));
+    assert.equal(countStatesNotWiped(states), 0);
     assert.equal(run.hex(), wanted);
   }
   const output = new Blake2xb({ key: KEY }).update(M);
-  assert.ok(failsAt(0, new Set(), () => output.copy()));
+  assert.ok(failsAtWrite(0, new Set(), () => output.copy()));
   assert.deepEqual(output.copy().read(9), new Blake2xb({ key: KEY }).update(M).read(9));
   for (const Hash of [Blake2b, Blake2xb]) {
     class Mine extends Hash {}
@@ -222,7 +225,7 @@ test("the state of a run under a key is wiped when its object goes", async () =>
   const lengths = [BLAKE2B, BLAKE2XB].map(({ stateLength, room }) => stateLength + room);
   const noting = function (...words) {
     if (lengths.includes(this.length)) {
-      wiped.push(isState(this));
+      wiped.push(hasNonzeroByte(this));
       assert.deepEqual(words, [0]);
     }
     return Reflect.apply(fill, this, words);
@@ -233,7 +236,7 @@ test("the state of a run under a key is wiped when its object goes", async () =>
       await new Promise((resolve) => setTimeout(resolve, 10));
     }
   };
-  await withOthers(Uint8Array.prototype, { fill: noting }, async () => {
+  await withReplacedProperties(Uint8Array.prototype, { fill: noting }, async () => {
     await collectUntil((i) => i === 10); // those of the tests before
     wiped.length = 0;
     (() => {
@@ -250,7 +253,7 @@ test("the state of a run under a key is wiped when its object goes", async () =>
 });
 
 test("load compiles ahead, and again", async () => {
-  const printed = printedBy(`const { blake2b, hex, load } = await import(${INDEX});
+  const printed = outputOfProgram(`const { blake2b, hex, load } = await import(${INDEX});
     WebAssembly.Module = class { constructor() { throw new Error("on this thread"); } };
     await load();
     console.log(hex(blake2b(new Uint8Array(0), { digestLength: 4 })));`);

@@ -3,7 +3,7 @@
 import assert from "node:assert/strict";
 import test from "node:test";
 import { Blake2b, Blake2bp, Blake2s, Blake2sp, TreeHash, hashWritable, hex, utf8 } from "../index.js";
-import { assertClean, assertZeros, noteStates } from "./common.mjs";
+import { assertMemoriesAreWiped, assertZeros, recordStatesWritten } from "./common.mjs";
 
 const M = utf8("message");
 const KEY = new Uint8Array(32).fill(7);
@@ -15,11 +15,11 @@ test("a hash is loaded as it was, and goes on alone", () => {
       const hash = new Hash({ digestLength: 20, personalization: utf8("saved") });
       for (const part of parts) hash.update(part);
       const saved = hash.save();
-      assertClean("save");
+      assertMemoriesAreWiped("save");
       assert.equal(saved.length, length);
       assert.equal(saved.buffer.byteLength, length);
       const loaded = Hash.load(saved);
-      assertClean("load");
+      assertMemoriesAreWiped("load");
       assert.ok(loaded instanceof Hash && Object.getPrototypeOf(loaded) === Hash.prototype);
       assert.deepEqual([loaded.digestLength, loaded.blockLength], [20, hash.blockLength]);
       const again = hex(saved);
@@ -64,7 +64,7 @@ test("what is no saved state of the hash is refused", () => {
     for (const bytes of [new Uint8Array(), saved.subarray(1), wrong, new Uint8Array(saved.length), new Other().save(),
       new Uint8Array(10_000_000), new ArrayBuffer(saved.length), Uint8Array.of(...saved, 0)]) {
       assert.throws(() => Hash.load(bytes), { name: "RangeError", message });
-      assertClean("load, refused");
+      assertMemoriesAreWiped("load, refused");
     }
     for (const bytes of [undefined, null, hex(saved), [...saved], 5, new Hash()]) {
       assert.throws(() => Hash.load(bytes), {
@@ -124,7 +124,7 @@ test("the state of a loaded hash is wiped as that of any other", () => {
     const saved = new Hash().update(M).save();
     for (const end of ["digest", "hex", "wipe"]) {
       const states = new Set();
-      noteStates(states, () => Hash.load(saved)[end]());
+      recordStatesWritten(states, () => Hash.load(saved)[end]());
       assert.ok(states.size > 0);
       for (const state of states) assertZeros(state, end);
     }

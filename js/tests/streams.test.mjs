@@ -13,7 +13,7 @@ import {
   Blake2b, Blake2bp, Blake2s, Blake2sp, TreeHash, blake2b, blake2bStream, blake2bp, blake2bpStream, blake2s,
   blake2sStream, blake2sp, blake2spStream, hashTransform, hashWritable, treeRoot, treeRootStream, utf8,
 } from "../index.js";
-import { hexOf, noteStates, openFile, serve, withOthers } from "./common.mjs";
+import { hexOf, recordStatesWritten, newOpenFile, serve, withReplacedProperties } from "./common.mjs";
 
 const SLICE = 4_194_304;
 const MESSAGE = new Uint8Array(randomBytes(4_300_000)); // two slices of a blob
@@ -28,24 +28,24 @@ const fault = new Error("enough");
 function* piecesOf(size) {
   for (let at = 0; at < MESSAGE.length; at += size) yield MESSAGE.subarray(at, at + size);
 }
-const ofNode = () => Readable.from(piecesOf(70_000), { objectMode: false });
-const ofWeb = () => new Blob([MESSAGE]).stream();
-const ofText = () => ReadableStream.from(["text"]);
+const nodeStream = () => Readable.from(piecesOf(70_000), { objectMode: false });
+const webStream = () => new Blob([MESSAGE]).stream();
+const textStream = () => ReadableStream.from(["text"]);
 const throwing = { onProgress() { throw fault; } };
-const ofPart = () => new Blob([PART]).stream();
+const streamOfPart = () => new Blob([PART]).stream();
 
 test("a source of any kind has one digest", async (t) => {
-  const { path, file: handle } = await openFile(t, MESSAGE);
+  const { path, file: handle } = await newOpenFile(t, MESSAGE);
   const file = { // whose numbers are bigints
     fd: handle.fd, read: (...words) => handle.read(...words), stat: () => handle.stat({ bigint: true }),
   };
   const pieces = [MESSAGE.subarray(0, 9), MESSAGE.subarray(9).slice().buffer];
   const again = { async* [Symbol.asyncIterator]() { yield* pieces; } };
-  const piped = ofNode();
+  const piped = nodeStream();
   const other = new Response(MESSAGE);
   const sources = [
     new Blob([MESSAGE]), new Response(MESSAGE).body, ReadableStream.from(piecesOf(70_000)), createReadStream(path),
-    (async function* () { yield* piecesOf(12_345); })(), piecesOf(1_000_000), ...ofWeb().tee(), other.clone().body,
+    (async function* () { yield* piecesOf(12_345); })(), piecesOf(1_000_000), ...webStream().tee(), other.clone().body,
     other.body, pieces, pieces, new Set(pieces), again, again, { [Symbol.iterator]: () => piecesOf(1_000_000) },
     handle, file, piped, piped.pipe(new PassThrough()), // listeners to data and pipes take nothing from each other
     await openAsBlob(path),
@@ -70,7 +70,7 @@ test("a source of any kind has one digest", async (t) => {
 test("progress counts up to the end", async (t) => {
   const known = [[SLICE, 4_300_000], [4_300_000, 4_300_000]];
   const unknown = [[2_000_000, undefined], [4_000_000, undefined], [4_300_000, undefined]];
-  const { file } = await openFile(t, MESSAGE);
+  const { file } = await newOpenFile(t, MESSAGE);
   for (const [source, wanted] of [
     [new Blob([MESSAGE]), known], [file, known], [new Blob([MESSAGE.subarray(0, SLICE)]), [[SLICE, SLICE]]],
     [piecesOf(2_000_000), unknown], [ReadableStream.from(piecesOf(2_000_000)), unknown],
@@ -103,7 +103,7 @@ test("what fails rejects, and the source is released", async () => {
     [thrown, throwing, fault], [new ReadableStream({ pull() { throw fault; } }), {}, fault],
     [(async function* () { throw fault; })(), {}, fault], [counted(), throwing, fault],
     [(async function* () { yield* counted(); })(), throwing, fault],
-    [ofText(), {}, { name: "TypeError", message: "blake2bStream: chunk must be a Uint8Array, another view or an " +
+    [textStream(), {}, { name: "TypeError", message: "blake2bStream: chunk must be a Uint8Array, another view or an " +
       "ArrayBuffer, not a string (utf8() encodes a string)" }],
     // by an abort, before and on the way
     [new Blob([MESSAGE]), { signal: AbortSignal.abort() }, { name: "AbortError" }],
@@ -142,14 +142,14 @@ test("what fails after the first failure is not reported, and no listener is lef
   const { AbortController } = globalThis;
   const { signal } = new AbortController();
   const signals = [signal];
-  await withOthers(globalThis, { AbortController: class extends AbortController {
+  await withReplacedProperties(globalThis, { AbortController: class extends AbortController {
     constructor() {
       super();
       signals.push(this.signal);
     }
   } }, async () => {
     await blake2bStream((async function* () { yield* piecesOf(1_000_000); })(), { signal });
-    await assert.rejects(blake2bStream(ofText(), { signal }), TypeError);
+    await assert.rejects(blake2bStream(textStream(), { signal }), TypeError);
   });
   await sleep(0);
   assert.deepEqual(signals.map((signal) => getEventListeners(signal, "abort").length), [0, 0, 0]);
@@ -167,7 +167,7 @@ test("an iterator that fails to end, or to go on, changes nothing", async () => 
 });
 
 test("key and salt are those of the call, and a stream under a key that fails leaves no state", async (t) => {
-  const { file } = await openFile(t, MESSAGE);
+  const { file } = await newOpenFile(t, MESSAGE);
   const options = { leafLength: 4096, digestLength: 20 };
   const [key, salt] = [KEY.slice(), KEY.slice()];
   const tags = [new Blob([MESSAGE]), file].map((source) => blake2bStream(source, { key }));
@@ -179,13 +179,13 @@ test("key and salt are those of the call, and a stream under a key that fails le
   assert.deepEqual(await Promise.all([...tags, ...roots]), [tag, tag, root, root]);
   const states = new Set();
   const call = async () => blake2bStream([MESSAGE.subarray(0, 9), "text"], { key: KEY });
-  await assert.rejects(noteStates(states, call), TypeError);
+  await assert.rejects(recordStatesWritten(states, call), TypeError);
   assert.ok(states.size > 0);
   for (const state of states) assert.ok(state.every((byte) => byte === 0));
 });
 
 // What a handler does with an upload.
-async function answerOf(t, handler) {
+async function answerToUpload(t, handler) {
   let answer;
   const url = await serve(t, (path, request) => (answer = handler(request)).then(() => "", () => ""));
   await fetch(url, { method: "POST", body: BODY }).then((response) => response.text());
@@ -200,29 +200,29 @@ test("an upload that a parser has read is refused", async (t) => {
       await once(request, "end");
     },
   ]) {
-    await assert.rejects(answerOf(t, (request) => parse(request).then(() => blake2bStream(request))), READ);
+    await assert.rejects(answerToUpload(t, (request) => parse(request).then(() => blake2bStream(request))), READ);
   }
-  assert.deepEqual(await answerOf(t, (request) => blake2bStream(request)), blake2b(BODY));
+  assert.deepEqual(await answerToUpload(t, (request) => blake2bStream(request)), blake2b(BODY));
 });
 
 test("the rest of a stream is not its digest", async () => {
   for (const [make, read] of [
-    [ofNode, async (source) => {
+    [nodeStream, async (source) => {
       await once(source, "readable");
       source.read(10);
     }],
-    [ofNode, async (source) => {
+    [nodeStream, async (source) => {
       for await (const chunk of source.iterator({ destroyOnReturn: false })) return assert.ok(chunk.length > 0);
     }],
-    [ofNode, (source) => source.destroy()],
-    [ofWeb, async (source) => {
+    [nodeStream, (source) => source.destroy()],
+    [webStream, async (source) => {
       const reader = source.getReader();
       await assert.rejects(blake2bStream(source), READ); // it is locked
       await reader.read();
       reader.releaseLock();
     }],
-    [ofWeb, async (source) => { for await (const chunk of source) assert.ok(chunk.length > 0); }],
-    [ofWeb, (source) => source.cancel()],
+    [webStream, async (source) => { for await (const chunk of source) assert.ok(chunk.length > 0); }],
+    [webStream, (source) => source.cancel()],
     [() => new Response(BODY), (response) => response.text()], [() => piecesOf(SLICE), blake2bStream],
   ]) {
     const source = make();
@@ -236,7 +236,7 @@ test("the rest of a stream is not its digest", async () => {
 });
 
 test("of two readers of a stream one is refused", async () => {
-  for (const make of [ofNode, ofWeb, async function* () { yield MESSAGE; }]) {
+  for (const make of [nodeStream, webStream, async function* () { yield MESSAGE; }]) {
     const source = make();
     const [first, second] = await Promise.allSettled([blake2bStream(source), blake2bStream(source)]);
     assert.equal(hexOf(first.value), WANTED);
@@ -265,7 +265,7 @@ test("of two readers of a stream one is refused", async () => {
 });
 
 test("a stream of text is refused, whatever made it one, and other iterables of no bytes", async (t) => {
-  const { path, file } = await openFile(t, MESSAGE);
+  const { path, file } = await newOpenFile(t, MESSAGE);
   for (const make of [
     () => createReadStream(path, "utf8"), () => createReadStream(path).setEncoding("hex"),
     () => createInterface({ input: createReadStream(path) }), () => file.readLines({ autoClose: false }),
@@ -294,7 +294,7 @@ test("a chunk that shrinks while workers hash it is refused, and no shorter mess
 const HELPERS = { hashTransform, hashWritable };
 
 // Asserts that a hash has ended, so that nobody takes the digest of a part for that of all.
-async function assertEnded(...hashes) {
+async function assertHashesHaveEnded(...hashes) {
   await sleep(5);
   for (const hash of hashes) assert.throws(() => hash.digest(), /^TypeError: Blake2b.digest: this hash has ended/);
 }
@@ -306,7 +306,7 @@ test("streams of the web are hashed on the way, and passed on unchanged", async 
   ];
   const hashes = make();
   const last = new Blake2b();
-  let stream = ofPart();
+  let stream = streamOfPart();
   for (const hash of hashes) stream = stream.pipeThrough(hashTransform(hash));
   const [one, two] = stream.tee();
   await Promise.all([
@@ -326,7 +326,7 @@ test("streams of the web are hashed on the way, and passed on unchanged", async 
 });
 
 test("streams of node are hashed on the way, by pipeline and by pipe, and those of text are refused", async (t) => {
-  const { path: from } = await openFile(t, PART);
+  const { path: from } = await newOpenFile(t, PART);
   const to = `${from}.copy`;
   const hashes = [1, 2, 3, 4].map(() => new Blake2b());
   await pipeline(createReadStream(from), hashTransform(hashes[0]), createWriteStream(to));
@@ -338,7 +338,7 @@ test("streams of node are hashed on the way, by pipeline and by pipe, and those 
   assert.deepEqual(hashes.map((hash) => hash.hex()), Array(4).fill(hexOf(blake2b(PART))));
   const hash = new Blake2b({ key: BODY });
   await assert.rejects(pipeline(createReadStream(from, "latin1"), hashWritable(hash)), IS_OF_TEXT);
-  await assertEnded(hash);
+  await assertHashesHaveEnded(hash);
   for (const sink of [Writable.fromWeb(hashWritable(new Blake2b()), options),
     Duplex.fromWeb(hashTransform(new Blake2b()), options).resume()]) {
     await assert.rejects(finished(createReadStream(from, "latin1").pipe(sink)), IS_OF_TEXT);
@@ -371,7 +371,7 @@ test("what fails on either side fails on the other, and ends the hash", async ()
       await Promise.race([read, sleep(5)]);
       await writer.abort(fault);
       await written;
-      await assertEnded(hash);
+      await assertHashesHaveEnded(hash);
       if (reading) await assert.rejects(reading.read(), fault);
     }
     // a chunk
@@ -385,7 +385,7 @@ test("what fails on either side fails on the other, and ends the hash", async ()
         "not a string (utf8() encodes a string)",
     });
     if (next) await assert.rejects(next, IS_OF_TEXT);
-    await assertEnded(hash);
+    await assertHashesHaveEnded(hash);
   }
   // the other side is canceled, at once or on the way: the source hears of it
   for (const count of [0, 1]) {
@@ -398,7 +398,7 @@ test("what fails on either side fails on the other, and ends the hash", async ()
     const reader = source.pipeThrough(hashTransform(hash)).getReader();
     for (let i = 0; i < count; i++) await reader.read();
     await reader.cancel(fault);
-    await assertEnded(hash);
+    await assertHashesHaveEnded(hash);
     assert.equal(heard, fault);
   }
   // of node
@@ -415,7 +415,7 @@ test("what fails on either side fails on the other, and ends the hash", async ()
     .pipeTo(hashWritable(hashes[3]), { signal });
   setTimeout(() => control.abort(fault), 10);
   await assert.rejects(pipe, fault);
-  await assertEnded(...hashes);
+  await assertHashesHaveEnded(...hashes);
 });
 
 test("only hashes are accepted, and no options", () => {
@@ -466,19 +466,19 @@ test("a hash with a pipe that has not ended is refused, and nothing is lost", as
     const hash = new Blake2b({ key: BODY });
     const pair = helper(hash);
     const piped = pair.readable === undefined
-      ? ofPart().pipeTo(pair) : ofPart().pipeThrough(pair).pipeTo(new WritableStream());
+      ? streamOfPart().pipeTo(pair) : streamOfPart().pipeThrough(pair).pipeTo(new WritableStream());
     refuses(hash);
     await piped;
     assert.equal(hash.copy().hex(), hexOf(blake2b(PART, { key: BODY })));
     // of two pipes, one after the other, and pieces between them
     hash.update(BODY);
-    await ofPart().pipeTo(hashWritable(hash));
+    await streamOfPart().pipeTo(hashWritable(hash));
     const wanted = new Blake2b({ key: BODY }).update(PART).update(BODY).update(PART).update(BODY);
     assert.equal(hash.update(BODY).hex(), wanted.hex());
   }
   // that never ends
   const endless = new Blake2b();
-  await ofPart().pipeTo(hashWritable(endless), { preventClose: true });
+  await streamOfPart().pipeTo(hashWritable(endless), { preventClose: true });
   refuses(endless);
   // between two chunks
   const hash = new Blake2b();

@@ -10,8 +10,8 @@ import { setTimeout as sleep } from "node:timers/promises";
 import workerThreads from "node:worker_threads";
 import { blake2b, blake2bStream, hex, treeLeaves, treeRoot, treeRootOfLeaves, treeRootStream, utf8 } from "../index.js";
 import { processorCount } from "../src/platform.js";
-import { digestsOf } from "../src/ranges.js";
-import { collect, openFile, withOthers } from "./common.mjs";
+import { digestsOfRange } from "../src/ranges.js";
+import { collect, newOpenFile, withReplacedProperties } from "./common.mjs";
 
 const MESSAGE = new Uint8Array(randomBytes(9_000_001));
 const SALT = utf8("a salt");
@@ -25,27 +25,27 @@ const PLACE = { settings: { leafLength: 100, salt: SALT, personalization: SALT }
 const DIGESTS = treeLeaves(PART, { ...PLACE.settings, first: 5, ends: true });
 
 const blob = () => new Blob([MESSAGE]);
-const byThreads = async (source, options) =>
+const rootByThreads = async (source, options) =>
   hex(await treeRootStream(source, { threads: 3, onFallback(cause) { throw cause; }, ...LEAF, ...options }));
-async function* inPieces(message) {
+async function* piecesOf(message) {
   for (let at = 0; at < message.length; at += 777_777) yield message.subarray(at, at + 777_777);
 }
 
 // Runs the work with another class instead of node's Worker.
-const withWorkers = (Class, work) => withOthers(workerThreads, { Worker: Class }, work);
+const withWorkers = (Class, work) => withReplacedProperties(workerThreads, { Worker: Class }, work);
 
 // Runs the work as a browser would, whose Worker is this class, on a number of processors.
-const inBrowser = (Worker, hardwareConcurrency, work) =>
-  withOthers(process, { getBuiltinModule: () => undefined }, () =>
-    withOthers(globalThis, { Worker, navigator: { hardwareConcurrency } }, work));
+const asInBrowser = (Worker, hardwareConcurrency, work) =>
+  withReplacedProperties(process, { getBuiltinModule: () => undefined }, () =>
+    withReplacedProperties(globalThis, { Worker, navigator: { hardwareConcurrency } }, work));
 
 // Waits until workers have exited. One that is left is an error, and ends the process at the end.
-const ended = (begun) => Promise.race([Promise.all(begun), new Promise((_, reject) =>
+const waitUntilWorkersExit = (begun) => Promise.race([Promise.all(begun), new Promise((_, reject) =>
   setTimeout(reject, 20_000, new Error("a worker is left")).unref())]);
 after(() => setTimeout(() => process.exit(1), 20_000).unref());
 
 // Workers of node that note in a list when they have exited.
-const counted = (begun = [], make = (...words) => words) => class extends workerThreads.Worker {
+const countedWorkers = (begun = [], make = (...words) => words) => class extends workerThreads.Worker {
   constructor(...words) {
     super(...make(...words));
     begun.push(new Promise((resolve) => this.on("exit", resolve)));
@@ -53,10 +53,10 @@ const counted = (begun = [], make = (...words) => words) => class extends worker
 };
 
 // The same, which run this program instead.
-const running = (program, begun) => counted(begun, () => [program, { eval: true }]);
+const workersRunningProgram = (program, begun) => countedWorkers(begun, () => [program, { eval: true }]);
 
 // A worker of node that has started, and only does what postMessage of a class of it does.
-class Ready extends EventEmitter {
+class StartedWorker extends EventEmitter {
   constructor() {
     super();
     setImmediate(() => this.emit("message", "ready"));
@@ -65,13 +65,13 @@ class Ready extends EventEmitter {
 }
 
 // A worker of a browser that starts, unless it is told to fail, and then does what work() does.
-class Fake {
+class FakeBrowserWorker {
   static made = [];
   static failing = () => undefined;
   constructor(url, options) {
     this.url = String(url);
-    Fake.made.push([this.url, options]);
-    const fault = Fake.failing(String(url));
+    FakeBrowserWorker.made.push([this.url, options]);
+    const fault = FakeBrowserWorker.failing(String(url));
     if (fault instanceof Error) throw fault;
     setImmediate(() => (fault ? this.onerror(fault) : this.onmessage({ data: "ready" })));
   }
@@ -80,14 +80,14 @@ class Fake {
     const bytes = message ?? new Uint8Array(await blob.arrayBuffer());
     this.onmessage({ data: treeLeaves(bytes, { ...settings, ...range }) });
   }
-  terminate() { Fake.made.push("stopped"); }
+  terminate() { FakeBrowserWorker.made.push("stopped"); }
 }
 
 // A file of node that has this many bytes, or says so.
-const fileOf = (size, more) => ({ fd: 3, stat: async () => ({ isFile: () => true, size }), ...more });
+const fakeFileOf = (size, more) => ({ fd: 3, stat: async () => ({ isFile: () => true, size }), ...more });
 
 test("the root by threads is that of one, by as many workers as there are ranges, which are stopped", async (t) => {
-  const { path, file } = await openFile(t, MESSAGE);
+  const { path, file } = await newOpenFile(t, MESSAGE);
   await file.read(new Uint8Array(7)); // its position does not matter
   const sorted = (numbers) => [...numbers].sort((a, b) => a - b);
   for (const [i, [length, leafLength, threads, ...all]] of [
@@ -103,21 +103,21 @@ test("the root by threads is that of one, by as many workers as there are ranges
     const message = MESSAGE.subarray(0, length);
     await truncate(path, length);
     const options = { leafLength, salt: SALT, personalization: utf8("p"), digestLength: 40 };
-    const other = [() => new Blob([message]), inPieces, () => new Blob([message]).stream()][i % 3](message);
+    const other = [() => new Blob([message]), piecesOf, () => new Blob([message]).stream()][i % 3](message);
     for (const [source, total] of [[other, i % 3 === 0 ? length : undefined], [file, length]]) {
       const ranges = source === file && leafLength === 5_000_000 ? [length] : all;
       const [begun, counts, jobs] = [[], [], []];
-      const Class = class extends counted(begun) {
+      const Class = class extends countedWorkers(begun) {
         postMessage(job, ...more) {
           super.postMessage(job, ...more);
           jobs.push(job);
         }
       };
       const onProgress = (...both) => counts.push(both);
-      const root = await withWorkers(Class, () => byThreads(source, { ...options, threads, onProgress }));
+      const root = await withWorkers(Class, () => rootByThreads(source, { ...options, threads, onProgress }));
       assert.equal(root, hex(treeRoot(message, options)), `${length} ${leafLength}`);
       assert.equal(begun.length, Math.min(ranges.length, threads ?? 1), `${length} ${leafLength}`);
-      await ended(begun);
+      await waitUntilWorkersExit(begun);
       assert.deepEqual(counts.at(-1) ?? [0, total], [length, total]);
       if (ranges.length === 0) continue;
       assert.deepEqual(sorted(counts.map(([at], i) => at - (counts[i - 1]?.[0] ?? 0))), sorted(ranges));
@@ -134,18 +134,19 @@ test("workers use the module that is compiled here", async () => {
   const worker = new URL("../src/vulfsjor_worker.js", import.meta.url).href;
   const program = `globalThis.atob = () => { throw new Error("decoded again"); };
     import("${worker}");`;
-  assert.equal(await withWorkers(running(program), () => byThreads(blob())), ROOT);
+  assert.equal(await withWorkers(workersRunningProgram(program), () => rootByThreads(blob())), ROOT);
 });
 
 test("a worker transfers its digests, and throws what fails there", async () => {
   const sent = [];
   let thrown;
-  await withOthers(globalThis, { postMessage: (...words) => sent.push(words), onmessage: undefined }, async () => {
+  const ofWorker = { postMessage: (...words) => sent.push(words), onmessage: undefined };
+  await withReplacedProperties(globalThis, ofWorker, async () => {
     await import("../src/vulfsjor_worker.js");
     const { onmessage } = globalThis;
     onmessage({ data: { ...PLACE, message: PART } });
     for (let left = 1000; sent.length < 2 && left > 0; left--) await sleep(1);
-    await withOthers(globalThis, { setTimeout: (work) => (thrown = work) }, async () => {
+    await withReplacedProperties(globalThis, { setTimeout: (work) => (thrown = work) }, async () => {
       onmessage({ data: { ...PLACE, blob: { arrayBuffer: () => Promise.reject(fault) } } });
       await new Promise((resolve) => setImmediate(resolve));
     });
@@ -155,12 +156,12 @@ test("a worker transfers its digests, and throws what fails there", async () => 
 });
 
 test("a range is read where it is, past 4 GiB too", async (t) => {
-  const { file } = await openFile(t, MESSAGE);
+  const { file } = await newOpenFile(t, MESSAGE);
   const far = 2 ** 32 + 7; // of a file that is almost all hole
   await file.write(PART, 0, PART.length, far);
   for (const source of [{ message: PART }, { blob: new Blob([PART]) }, ...[700, far].map((at) =>
     ({ file: { fd: file.fd, at, length: 1000 } }))]) {
-    assert.deepEqual(await digestsOf({ ...PLACE, ...source }), DIGESTS);
+    assert.deepEqual(await digestsOfRange({ ...PLACE, ...source }), DIGESTS);
   }
 });
 
@@ -171,7 +172,7 @@ for (const [leafLength, leaves, ranges] of [[65536, 64, 40], [16, 65536, 8]]) {
     const made = []; // references to the digests
     let kept = true;
     let sent = 0;
-    const Class = class extends Ready {
+    const Class = class extends StartedWorker {
       async postMessage({ file, range }) {
         const i = Number(range.first) / leaves;
         assert.equal(file.length, leafLength * leaves);
@@ -189,8 +190,8 @@ for (const [leafLength, leaves, ranges] of [[65536, 64, 40], [16, 65536, 8]]) {
         this.emit("message", digests);
       }
     };
-    const file = fileOf(ranges * leaves * leafLength);
-    const root = await withWorkers(Class, () => byThreads(file, { leafLength, threads: count }));
+    const file = fakeFileOf(ranges * leaves * leafLength);
+    const root = await withWorkers(Class, () => rootByThreads(file, { leafLength, threads: count }));
     const all = Buffer.concat(Array.from({ length: ranges }, (_, i) => resultOf(i)));
     assert.equal(root, hex(treeRootOfLeaves(all, { leafLength })));
     assert.equal(kept, false); // once the root has them
@@ -201,15 +202,15 @@ test("past 4 GiB each part of a file is read where it is", async () => {
   const size = 2 ** 32 + 3 * RANGE + 5;
   // by workers, which answer with zeros
   const jobs = [];
-  const Class = class extends Ready {
+  const Class = class extends StartedWorker {
     postMessage({ file, range }) {
       jobs.push([file.at, file.length, range.first, range.ends]);
       const digests = new Uint8Array(64 * Math.ceil(file.length / 65536));
       setImmediate(() => this.emit("message", digests));
     }
   };
-  const handle = fileOf(size);
-  await withWorkers(Class, () => byThreads(handle));
+  const handle = fakeFileOf(size);
+  await withWorkers(Class, () => rootByThreads(handle));
   const whole = Math.floor(size / RANGE);
   assert.deepEqual(jobs.sort((a, b) => a[0] - b[0]), Array.from({ length: whole + 1 }, (_, i) => [
     i * RANGE, i < whole ? RANGE : 5, BigInt(i * RANGE) / 65536n, i === whole]));
@@ -233,10 +234,10 @@ test("past 4 GiB each part of a file is read where it is", async () => {
 });
 
 test("a file that ends early, is closed or is a folder is refused", async (t) => {
-  const { folder, file } = await openFile(t, MESSAGE);
+  const { folder, file } = await newOpenFile(t, MESSAGE);
   const same = { fd: file.fd, read: (...words) => file.read(...words) };
-  const longer = fileOf(MESSAGE.length + 5, same);
-  const silent = fileOf(0, same); // as in /proc
+  const longer = fakeFileOf(MESSAGE.length + 5, same);
+  const silent = fakeFileOf(0, same); // as in /proc
   const end = `the file ends at byte ${MESSAGE.length}`;
   const rejects = (source, threads, error) => assert.rejects(treeRootStream(source, { ...LEAF, threads }), error);
   await rejects(longer, 2, { message: `treeRootStream: a worker failed: ${end}` });
@@ -249,14 +250,14 @@ test("a file that ends early, is closed or is a folder is refused", async (t) =>
     await other.close();
     await rejects(other, threads, { code: "EBADF" });
   }
-  await assert.rejects(byThreads(file, { signal: AbortSignal.abort(fault) }), fault);
+  await assert.rejects(rootByThreads(file, { signal: AbortSignal.abort(fault) }), fault);
 });
 
 test("threads 0 means all processors, and 256 at most, or one if nobody says how many there are", async () => {
-  const onProcessors = (count, work) => withOthers(os, { availableParallelism: () => count }, work);
+  const onProcessors = (count, work) => withReplacedProperties(os, { availableParallelism: () => count }, work);
   for (const [processors, count] of [[1, 0], [2, 2]]) {
     const begun = [];
-    const call = () => withWorkers(counted(begun), () => byThreads(blob(), { threads: 0 }));
+    const call = () => withWorkers(countedWorkers(begun), () => rootByThreads(blob(), { threads: 0 }));
     assert.equal(await onProcessors(processors, call), ROOT);
     assert.equal(begun.length, count);
   }
@@ -264,12 +265,12 @@ test("threads 0 means all processors, and 256 at most, or one if nobody says how
     assert.equal(onProcessors(processors, processorCount), Math.min(processors, 256));
   }
   for (const [processors, count] of [[3, 3], [300, 256], [undefined, 1]]) {
-    assert.equal(inBrowser(undefined, processors, processorCount), count);
+    assert.equal(asInBrowser(undefined, processors, processorCount), count);
   }
 });
 
 test("where a text cannot be started a file is, or else the calling thread hashes; blobs are read there", async (t) => {
-  t.after(() => (Fake.failing = () => undefined));
+  t.after(() => (FakeBrowserWorker.failing = () => undefined));
   const released = [];
   const { revokeObjectURL } = URL;
   const release = (url) => {
@@ -281,7 +282,7 @@ test("where a text cannot be started a file is, or else the calling thread hashe
   const isText = (url) => url.startsWith("blob:");
   const held = []; // the addresses of texts that workers still hold when they work
   const jobs = [];
-  const Class = class extends Fake {
+  const Class = class extends FakeBrowserWorker {
     postMessage(job, transferred) {
       jobs.push([job.blob?.size ?? job.message.length, transferred.length]);
       if (isText(this.url) && !released.includes(this.url)) held.push(this.url);
@@ -296,20 +297,21 @@ test("where a text cannot be started a file is, or else the calling thread hashe
     [(url) => (isText(url) ? {} : thrown), "refused", ["text", "stopped", "file"]],
     [() => ({}), "it could not be started", ["text", "stopped", "file", "stopped"]],
   ]) {
-    Fake.failing = failing;
-    for (const source of [blob(), inPieces(MESSAGE)]) {
-      Fake.made.length = jobs.length = released.length = 0;
+    FakeBrowserWorker.failing = failing;
+    for (const source of [blob(), piecesOf(MESSAGE)]) {
+      FakeBrowserWorker.made.length = jobs.length = released.length = 0;
       const [causes, counts] = [[], []];
       const options = { threads: 2, onFallback: (...words) => causes.push(words), onProgress: (at) => counts.push(at) };
-      const root = await withOthers(URL, { revokeObjectURL: release }, () =>
-        inBrowser(Class, 4, () => byThreads(source, options)));
+      const root = await withReplacedProperties(URL, { revokeObjectURL: release }, () =>
+        asInBrowser(Class, 4, () => rootByThreads(source, options)));
       assert.equal(root, ROOT);
       // of the two workers only the first calls onFallback, and each is started once
       assert.deepEqual(causes.map(([fault, ...more]) => [fault.message, ...more]),
         cause === undefined ? [] : [[cause]]);
-      assert.deepEqual(Fake.made.map((entry) =>
+      assert.deepEqual(FakeBrowserWorker.made.map((entry) =>
         (entry === "stopped" ? entry : isText(entry[0]) ? "text" : "file")).sort(), [...made, ...made].sort());
-      assert.deepEqual(Fake.made.filter(([url]) => url === file[0]), Array(2 * made.includes("file")).fill(file));
+      assert.deepEqual(FakeBrowserWorker.made.filter(([url]) => url === file[0]),
+        Array(2 * made.includes("file")).fill(file));
       assert.equal(new Set(released).size, 2);
       assert.deepEqual(held, []);
       assert.deepEqual(jobs.sort((a, b) => a[0] - b[0]), cause ? [] : [MESSAGE.length - 2 * RANGE, RANGE, RANGE]
@@ -320,13 +322,14 @@ test("where a text cannot be started a file is, or else the calling thread hashe
 });
 
 test("on the calling thread an abort comes through between ranges, and nothing is counted after it", async (t) => {
-  Fake.failing = () => fault;
-  t.after(() => (Fake.failing = () => undefined));
-  const call = (source, more) => inBrowser(Fake, 4, () => byThreads(source, { threads: 2, onFallback() {}, ...more }));
+  FakeBrowserWorker.failing = () => fault;
+  t.after(() => (FakeBrowserWorker.failing = () => undefined));
+  const call = (source, more) => asInBrowser(FakeBrowserWorker, 4,
+    () => rootByThreads(source, { threads: 2, onFallback() {}, ...more }));
   const control = new AbortController();
   const long = (async function* () { for (let i = 0; i < 9; i++) yield MESSAGE; })();
   const onProgress = () => setTimeout(() => control.abort(fault));
-  await withOthers(globalThis, { setImmediate: undefined }, () => // a browser has none
+  await withReplacedProperties(globalThis, { setImmediate: undefined }, () => // a browser has none
     assert.rejects(call(long, { signal: control.signal, onProgress }), fault));
   // whatever was being read then
   const [late, counts] = [new AbortController(), []];
@@ -364,13 +367,13 @@ test("an abort, or progress that throws, ends it and stops the workers", async (
       control.abort(fault);
     };
     const options = { threads: 2, onProgress, signal: control.signal };
-    await assert.rejects(withWorkers(counted(begun), () => byThreads(source.stream, options)), fault);
+    await assert.rejects(withWorkers(countedWorkers(begun), () => rootByThreads(source.stream, options)), fault);
     assert.deepEqual([source.isLetGo, source.stream.locked, count, begun.length], [fault, false, 3, 2]);
-    await ended(begun);
+    await waitUntilWorkersExit(begun);
   }
   const begun = [];
-  const call = () => byThreads(endlessSource().stream, { leafLength: 1, signal: AbortSignal.abort(fault) });
-  await assert.rejects(withWorkers(counted(begun), call), fault);
+  const call = () => rootByThreads(endlessSource().stream, { leafLength: 1, signal: AbortSignal.abort(fault) });
+  await assert.rejects(withWorkers(countedWorkers(begun), call), fault);
   assert.equal(begun.length, 0);
 });
 
@@ -379,7 +382,7 @@ test("a worker that fails is an error, in node and in a browser, and nothing han
   const started = (act) => [`const { parentPort } = require("node:worker_threads");
     parentPort.once("message", () => { ${act} });
     parentPort.postMessage("ready");`, { eval: true }];
-  const Unreadable = class extends Ready {
+  const Unreadable = class extends StartedWorker {
     constructor(program, words) {
       super();
       assert.match(program, /^"use strict";/);
@@ -387,11 +390,11 @@ test("a worker that fails is an error, in node and in a browser, and nothing han
     }
     postMessage() { setImmediate(() => this.emit("messageerror", new Error("cannot be read"))); }
   };
-  const inNode = (Class, source = blob()) => () => withWorkers(Class, () => byThreads(source, { threads: 2 }));
-  const reporting = (event, value) => () => inBrowser(class extends Fake {
+  const inNode = (Class, source = blob()) => () => withWorkers(Class, () => rootByThreads(source, { threads: 2 }));
+  const reporting = (event, value) => () => asInBrowser(class extends FakeBrowserWorker {
     postMessage() { setImmediate(() => this[`on${event}`](value)); }
-  }, 4, () => byThreads(blob(), { threads: 2 }));
-  const doing = (act, source) => inNode(counted(begun, () => started(act)), source);
+  }, 4, () => rootByThreads(blob(), { threads: 2 }));
+  const doing = (act, source) => inNode(countedWorkers(begun, () => started(act)), source);
   let number = 0;
   const stalled = (async function* () {
     yield MESSAGE;
@@ -406,42 +409,42 @@ test("a worker that fails is an error, in node and in a browser, and nothing han
     [doing('throw "a thing"'), "a thing"], [doing("process.exit(3)", new Blob([])), "it exited with code 3"],
     [doing("process.exit(0)", endlessSource().stream), "it exited with code 0"],
     // one of several, and a source that stalls
-    [inNode(counted([], (...words) => (++number === 2 ? started("process.exit(3)") : words)), stalled),
+    [inNode(countedWorkers([], (...words) => (++number === 2 ? started("process.exit(3)") : words)), stalled),
       "it exited with code 3"],
   ]) {
-    Fake.made.length = 0;
+    FakeBrowserWorker.made.length = 0;
     await assert.rejects(call, { name: "Error", message: `treeRootStream: a worker failed: ${cause}` });
-    assert.deepEqual(Fake.made.splice(2), stopped);
-    await ended(begun);
+    assert.deepEqual(FakeBrowserWorker.made.splice(2), stopped);
+    await waitUntilWorkersExit(begun);
   }
 });
 
 test("in node, too, the calling thread hashes what no worker can be started for", async (t) => {
-  const { file } = await openFile(t, MESSAGE);
+  const { file } = await newOpenFile(t, MESSAGE);
   const begun = [];
   let number = 0;
   const refusing = class { constructor() { throw new Error("no room"); } };
   for (const [Class, source, cause] of [
-    [running('throw new Error("nothing here")', begun), file, "nothing here"],
-    [running("process.exit(3)", begun), blob(), "it exited with code 3"],
-    [running("", begun), inPieces(MESSAGE), "it exited with code 0"], [refusing, file, "no room"],
-    [refusing, inPieces(MESSAGE), "no room"],
+    [workersRunningProgram('throw new Error("nothing here")', begun), file, "nothing here"],
+    [workersRunningProgram("process.exit(3)", begun), blob(), "it exited with code 3"],
+    [workersRunningProgram("", begun), piecesOf(MESSAGE), "it exited with code 0"], [refusing, file, "no room"],
+    [refusing, piecesOf(MESSAGE), "no room"],
     // only one of two
-    [counted(begun, (...words) => (++number % 2 === 0 ? ["process.exit(3)", { eval: true }] : words)), file,
+    [countedWorkers(begun, (...words) => (++number % 2 === 0 ? ["process.exit(3)", { eval: true }] : words)), file,
       "it exited with code 3"],
   ]) {
     const causes = [];
     const onFallback = (fault) => causes.push(fault.message);
-    assert.equal(await withWorkers(Class, () => byThreads(source, { threads: 2, onFallback })), ROOT);
+    assert.equal(await withWorkers(Class, () => rootByThreads(source, { threads: 2, onFallback })), ROOT);
     assert.deepEqual(causes, [cause]);
   }
-  await ended(begun);
+  await waitUntilWorkersExit(begun);
   // without a function to call, and with one that throws
   const call = (source, more) =>
-    withWorkers(refusing, () => byThreads(source, { threads: 2, onFallback() {}, ...more }));
+    withWorkers(refusing, () => rootByThreads(source, { threads: 2, onFallback() {}, ...more }));
   assert.equal(await call(file, { onFallback: undefined }), ROOT);
   await assert.rejects(call(file, { onFallback() { throw fault; } }), fault);
   // the file's errors are those of the call
-  await assert.rejects(call(fileOf(MESSAGE.length + 5, { fd: file.fd })),
+  await assert.rejects(call(fakeFileOf(MESSAGE.length + 5, { fd: file.fd })),
     { message: `the file ends at byte ${MESSAGE.length}` });
 });

@@ -5,7 +5,7 @@ import { createHash } from "node:crypto";
 import test from "node:test";
 import * as vulfsjor from "../index.js";
 import { WAITING, memories } from "../src/engine.js";
-import { assertClean, noteStates } from "./common.mjs";
+import { assertMemoriesAreWiped, recordStatesWritten } from "./common.mjs";
 
 const {
   Blake2b, Blake2bp, Blake2s, Blake2sp, Blake2xb, TreeHash, blake2b, blake2s, hashWritable, hex, utf8,
@@ -18,24 +18,25 @@ const KEY = utf8("a key");
 const M = utf8("message");
 
 const part = (start, length) => MESSAGE.subarray(start, start + length);
-const around = (...lengths) => lengths.flatMap((length) => [length - 1, length, length + 1]).filter((n) => n >= 0);
+const lengthsAround = (...lengths) =>
+  lengths.flatMap((length) => [length - 1, length, length + 1]).filter((n) => n >= 0);
 const rotated = (values, start) => values.map((_, i) => values[(start + i) % values.length]);
 const listOf = (count, one) => Array.from({ length: count }, (_, i) => one(i));
 const copies = (hashes) => hashes.map((hash) => hash.copy());
 const digests = (hashes) => copies(hashes).map((hash) => hash.hex());
 
 // Hashes that have absorbed parts of these lengths, in turn, and the parts.
-function begun(Hash, count, pending, options = () => undefined) {
+function hashesAfterParts(Hash, count, pending, options = () => undefined) {
   const parts = listOf(count, (i) => part(7 * i, pending[i % pending.length]));
   return [parts.map((absorbed, i) => new Hash(options(i)).update(absorbed)), parts];
 }
 
 // Asserts that the hashes absorb the pieces, and what each has absorbed then: these parts by node's digest of it, if
 // they are given, and otherwise as by update.
-function absorb(Hash, hashes, pieces, parts) {
+function assertAbsorbs(Hash, hashes, pieces, parts) {
   const alone = copies(hashes).map((hash, i) => hash.update(pieces[i]).hex());
   assert.equal(Hash.updateMany(hashes, pieces), undefined);
-  assertClean("updateMany");
+  assertMemoriesAreWiped("updateMany");
   const got = digests(hashes);
   assert.deepEqual(got, alone);
   const [, name] = FAMILIES.find(([Family]) => Family === Hash);
@@ -46,14 +47,14 @@ function absorb(Hash, hashes, pieces, parts) {
 
 test("each hash absorbs its piece: of each length after each pending length", () => {
   for (const [Hash, , block] of FAMILIES) {
-    const lengths = around(0, block, 2 * block, 3 * block, 4 * block);
+    const lengths = lengthsAround(0, block, 2 * block, 3 * block, 4 * block);
     for (const pending of [0, 1, block - 1, block, block + 1, 2 * block, WAITING - 1, WAITING, WAITING + 1]) {
       for (const length of lengths) {
-        const [hashes, parts] = begun(Hash, 8, [pending]);
-        absorb(Hash, hashes, listOf(8, (i) => part(100 * i, length)), parts);
+        const [hashes, parts] = hashesAfterParts(Hash, 8, [pending]);
+        assertAbsorbs(Hash, hashes, listOf(8, (i) => part(100 * i, length)), parts);
       }
-      const [hashes, parts] = begun(Hash, lengths.length, [pending]);
-      absorb(Hash, hashes, lengths.map((length, i) => part(100 * i, length)), parts);
+      const [hashes, parts] = hashesAfterParts(Hash, lengths.length, [pending]);
+      assertAbsorbs(Hash, hashes, lengths.map((length, i) => part(100 * i, length)), parts);
     }
   }
 });
@@ -65,18 +66,18 @@ const OPTIONS = [
 test("each hash absorbs its piece: none, one and many, with keys and without, short and long", () => {
   for (const [Hash, , block] of FAMILIES) {
     const pending = [0, 1, block, 2 * block - 1, WAITING, 0, 5000];
-    const lengths = [...around(0, block, WAITING, 4 * block, PIECE), PIECE - WAITING, 2 * PIECE, 3];
+    const lengths = [...lengthsAround(0, block, WAITING, 4 * block, PIECE), PIECE - WAITING, 2 * PIECE, 3];
     for (const count of [0, 1, 3, 4, 5, 8, 9, 17, 33]) {
-      const [plain, parts] = begun(Hash, count, pending);
-      absorb(Hash, plain, listOf(count, (i) => part(i, lengths[(i + count) % lengths.length])), parts);
-      const [mixed] = begun(Hash, count, pending, (i) => OPTIONS[i % OPTIONS.length]);
+      const [plain, parts] = hashesAfterParts(Hash, count, pending);
+      assertAbsorbs(Hash, plain, listOf(count, (i) => part(i, lengths[(i + count) % lengths.length])), parts);
+      const [mixed] = hashesAfterParts(Hash, count, pending, (i) => OPTIONS[i % OPTIONS.length]);
       for (const start of [0, 4]) {
-        absorb(Hash, mixed, rotated(listOf(count, (i) => part(i, lengths[i % lengths.length])), start));
+        assertAbsorbs(Hash, mixed, rotated(listOf(count, (i) => part(i, lengths[i % lengths.length])), start));
       }
     }
     const longs = [WINDOW - 1, 0, WINDOW, 1, WINDOW + 1, 2 * WINDOW];
-    const [hashes, parts] = begun(Hash, longs.length, pending);
-    absorb(Hash, hashes, longs.map((length) => part(0, length)), parts);
+    const [hashes, parts] = hashesAfterParts(Hash, longs.length, pending);
+    assertAbsorbs(Hash, hashes, longs.map((length) => part(0, length)), parts);
   }
 });
 
@@ -95,7 +96,7 @@ test("short pieces wait, as those of update, and hashes go on alone", () => {
     const wanted = [[...all[0], M], [...all[1], M], [M]].map((parts) =>
       createHash(name).update(Buffer.concat(parts)).digest("hex"));
     assert.deepEqual(hashes.map((hash) => hash.hex()), wanted);
-    assertClean();
+    assertMemoriesAreWiped();
   }
 });
 
@@ -137,7 +138,7 @@ test("pieces of all types, in any iterable", () => {
 // ---- refusals
 
 // A hash to which this many bytes can be added, and no more.
-function late(Hash, room, block) {
+function hashWithRoomFor(Hash, room, block) {
   const saved = new Hash().update(M).save();
   const count = 2n ** 64n - 1n - BigInt(M.length + room);
   new DataView(saved.buffer).setBigUint64(saved.length - block - 11, count, true);
@@ -145,29 +146,29 @@ function late(Hash, room, block) {
 }
 
 // Asserts that a call is refused with this error, and that these hashes are unchanged and go on.
-function refuses(Hash, [hashes, pieces, ...more], [name, message], live = hashes) {
+function assertRefused(Hash, [hashes, pieces, ...more], [name, message], live = hashes) {
   const before = digests(live);
   const there = memories();
   assert.throws(() => Hash.updateMany(hashes, pieces, ...more),
     { name, message: `${Hash.name}.updateMany: ${message}` });
   assert.deepEqual(memories().map((bytes, i) => bytes === there[i]), there.map(() => true), message);
-  assertClean(message);
+  assertMemoriesAreWiped(message);
   assert.deepEqual(digests(live), before, message);
-  absorb(Hash, live, live.map((_, i) => part(i, 40 * i)));
+  assertAbsorbs(Hash, live, live.map((_, i) => part(i, 40 * i)));
 }
 
 // Hashes of which one is late, and pieces that fit.
 function mixed(Hash, count, block) {
-  const [hashes] = begun(Hash, count, [0, 5, block, 2000], (i) => OPTIONS[i % OPTIONS.length]);
-  if (count > 2) hashes[2] = late(Hash, 5000, block);
+  const [hashes] = hashesAfterParts(Hash, count, [0, 5, block, 2000], (i) => OPTIONS[i % OPTIONS.length]);
+  if (count > 2) hashes[2] = hashWithRoomFor(Hash, 5000, block);
   return [hashes, listOf(count, (i) => part(9 * i, [0, 3, 2 * block, 1200][i % 4]))];
 }
 
-const put = (values, place, value) => values.with?.(place, value) ??
+const withValueAt = (values, place, value) => values.with?.(place, value) ??
   [...values.slice(0, place), value, ...values.slice(place + 1)];
 
 // Calls some work with each place among 1, 4 and 9 hashes, and with what makes them and their pieces.
-function eachPlace(work) {
+function forEachPlace(work) {
   for (const [Hash, , block] of FAMILIES) {
     for (const count of [1, 4, 9]) {
       for (let place = 0; place < count; place++) work(Hash, block, place, () => mixed(Hash, count, block));
@@ -176,7 +177,7 @@ function eachPlace(work) {
 }
 
 test("what is no hash of the class is refused at each place", () => {
-  eachPlace((Hash, block, place, make) => {
+  forEachPlace((Hash, block, place, make) => {
     const Other = Hash === Blake2b ? Blake2s : Blake2b;
     const own = new Hash();
     for (const [wrong, said] of [
@@ -188,20 +189,21 @@ test("what is no hash of the class is refused at each place", () => {
     ]) {
       const [hashes, pieces] = make();
       const message = `hash ${place} must be a ${Hash.name}, not ${said}`;
-      refuses(Hash, [put(hashes, place, wrong), pieces], ["TypeError", message], put(hashes, place, own.copy()));
+      assertRefused(Hash, [withValueAt(hashes, place, wrong), pieces], ["TypeError", message],
+        withValueAt(hashes, place, own.copy()));
     }
   });
 });
 
 test("a hash that has ended is refused at each place", () => {
-  eachPlace((Hash, block, place, make) => {
+  forEachPlace((Hash, block, place, make) => {
     for (const end of ["digest", "hex", "wipe", "verify"]) {
       const [hashes, pieces] = make();
       hashes[place] = new Hash({ key: KEY });
       if (end === "verify") hashes[place].verify(hashes[place].copy().digest());
       else hashes[place][end]();
       const message = `hash ${place}: this hash has ended, by digest, hex, verify, wipe or a failed call`;
-      refuses(Hash, [hashes, pieces], ["TypeError", message], hashes.filter((_, i) => i !== place));
+      assertRefused(Hash, [hashes, pieces], ["TypeError", message], hashes.filter((_, i) => i !== place));
       assert.throws(() => hashes[place].copy(), /has ended/);
     }
   });
@@ -209,12 +211,12 @@ test("a hash that has ended is refused at each place", () => {
 
 test("a hash with an open pipe is refused at each place, and its pipe goes on", async () => {
   const writers = [];
-  eachPlace((Hash, block, place, make) => {
+  forEachPlace((Hash, block, place, make) => {
     const [hashes, pieces] = make();
     const wanted = hashes[place].copy().update(M);
     writers.push([hashWritable(hashes[place]).getWriter(), hashes[place], wanted]);
     const message = `hash ${place}: a pipe into this hash has not ended; wait for it first`;
-    refuses(Hash, [hashes, pieces], ["TypeError", message], hashes.filter((_, i) => i !== place));
+    assertRefused(Hash, [hashes, pieces], ["TypeError", message], hashes.filter((_, i) => i !== place));
   });
   for (const [writer, hash, wanted] of writers) {
     await writer.write(M);
@@ -231,12 +233,12 @@ test("the same hash twice is refused at each pair of places", () => {
         hashes[second] = hashes[first];
         const message = `hash ${second} is there twice`;
         for (const given of [pieces, pieces.map(() => new Uint8Array(0))]) {
-          refuses(Hash, [hashes, given], ["RangeError", message], hashes.filter((_, i) => i !== second));
+          assertRefused(Hash, [hashes, given], ["RangeError", message], hashes.filter((_, i) => i !== second));
         }
       }
     }
     const hash = new Hash().update(M);
-    refuses(Hash, [[hash, hash, hash], [M, M, M]], ["RangeError", "hash 1 is there twice"], [hash]);
+    assertRefused(Hash, [[hash, hash, hash], [M, M, M]], ["RangeError", "hash 1 is there twice"], [hash]);
   }
 });
 
@@ -249,20 +251,20 @@ test("what is no piece is refused at each place", () => {
   structuredClone(0, { transfer: [gone] });
   shrunk.resize(8);
   const expected = "must be a Uint8Array, another view or an ArrayBuffer, not";
-  eachPlace((Hash, block, place, make) => {
+  forEachPlace((Hash, block, place, make) => {
     for (const [wrong, said] of [
       ["abc", `${expected} a string (utf8() encodes a string)`], [undefined, `${expected} undefined`],
       [null, `${expected} null`], [5, `${expected} a number`], [[1, 2], `${expected} an array`],
       [{ length: 3 }, `${expected} an object`], [new Hash(), `${expected} an instance of ${Hash.name}`],
     ]) {
       const [hashes, pieces] = make();
-      for (const given of [put(pieces, place, wrong), put(pieces, place, wrong).values()]) {
-        refuses(Hash, [hashes, given], ["TypeError", `piece ${place} ${said}`]);
+      for (const given of [withValueAt(pieces, place, wrong), withValueAt(pieces, place, wrong).values()]) {
+        assertRefused(Hash, [hashes, given], ["TypeError", `piece ${place} ${said}`]);
       }
     }
     for (const wrong of views) {
       const [hashes, pieces] = make();
-      refuses(Hash, [hashes, put(pieces, place, wrong)],
+      assertRefused(Hash, [hashes, withValueAt(pieces, place, wrong)],
         ["TypeError", `the memory of piece ${place} is detached or has shrunk`]);
     }
   });
@@ -275,8 +277,8 @@ test("more pieces than hashes, or fewer, and what is no list", () => {
         const [hashes] = mixed(Hash, count, block);
         const message = `there must be a piece for each hash, not ${other} for ${count}`;
         const pieces = Array(other).fill(M);
-        refuses(Hash, [hashes, pieces], ["RangeError", message]);
-        refuses(Hash, [hashes.values(), pieces.values()], ["RangeError", message], hashes);
+        assertRefused(Hash, [hashes, pieces], ["RangeError", message]);
+        assertRefused(Hash, [hashes.values(), pieces.values()], ["RangeError", message], hashes);
       }
     }
     const { name } = Hash;
@@ -285,48 +287,48 @@ test("more pieces than hashes, or fewer, and what is no list", () => {
       [undefined, "undefined"], [null, "null"], [5, "a number"], ["", "a string"], ["abc", "a string"],
       [{ length: 1, 0: hash }, "an object"], [hash, `an instance of ${name}`], [{ [Symbol.iterator]: 5 }, "an object"],
     ]) {
-      refuses(Hash, [wrong, [M]], ["TypeError", `hashes must be an iterable of ${name}, not ${said}`], [hash]);
-      refuses(Hash, [[hash], wrong], ["TypeError", `pieces must be an iterable of bytes, not ${said}`]);
+      assertRefused(Hash, [wrong, [M]], ["TypeError", `hashes must be an iterable of ${name}, not ${said}`], [hash]);
+      assertRefused(Hash, [[hash], wrong], ["TypeError", `pieces must be an iterable of bytes, not ${said}`]);
     }
     for (const one of [M, new Uint8Array(0), new ArrayBuffer(0), new DataView(M.buffer), Buffer.from("abc")]) {
       const said = `an instance of ${one.constructor.name}`;
-      refuses(Hash, [one, []], ["TypeError", `hashes must be an iterable of ${name}, not ${said}`], [hash]);
+      assertRefused(Hash, [one, []], ["TypeError", `hashes must be an iterable of ${name}, not ${said}`], [hash]);
       const hint = "several pieces are expected, not one";
-      refuses(Hash, [[hash], one], ["TypeError", `pieces must be an iterable of bytes, not ${said}; ${hint}`]);
+      assertRefused(Hash, [[hash], one], ["TypeError", `pieces must be an iterable of bytes, not ${said}; ${hint}`]);
     }
     for (const more of [undefined, {}, 5]) {
-      refuses(Hash, [[hash], [M], more],
+      assertRefused(Hash, [[hash], [M], more],
         ["TypeError", "too many arguments, 3 instead of at most 2; a hash has its options already"]);
     }
-    refuses(Hash, [], ["TypeError", `hashes must be an iterable of ${name}, not undefined`], [hash]);
+    assertRefused(Hash, [], ["TypeError", `hashes must be an iterable of ${name}, not undefined`], [hash]);
   }
 });
 
 test("a count that would reach 2^64 is refused at each place", () => {
-  eachPlace((Hash, block, place, make) => {
+  forEachPlace((Hash, block, place, make) => {
     for (const room of [0, 1, block, 4 * block, WAITING + 1, ...(place % 4 === 0 ? [PIECE, PIECE + block] : [])]) {
       const [hashes, pieces] = make();
-      hashes[place] = late(Hash, room, block);
+      hashes[place] = hashWithRoomFor(Hash, room, block);
       const before = hashes[place].copy().hex();
-      refuses(Hash, [hashes, put(pieces, place, part(0, room + 1))],
+      assertRefused(Hash, [hashes, withValueAt(pieces, place, part(0, room + 1))],
         ["RangeError", `hash ${place}: the message is too long`], hashes.filter((_, i) => i !== place));
       assert.equal(hashes[place].copy().hex(), before);
-      absorb(Hash, hashes, put(pieces, place, part(0, room)));
+      assertAbsorbs(Hash, hashes, withValueAt(pieces, place, part(0, room)));
       const message = `${Hash.name}.updateMany: hash 0: the message is too long`;
       assert.throws(() => Hash.updateMany([hashes[place]], [part(0, 1)]), { name: "RangeError", message });
-      absorb(Hash, [hashes[place]], [part(0, 0)]);
+      assertAbsorbs(Hash, [hashes[place]], [part(0, 0)]);
     }
   });
 });
 
 // ---- code of the caller
 
-const take = (view) => structuredClone(0, { transfer: [view.buffer] });
+const detachBuffer = (view) => structuredClone(0, { transfer: [view.buffer] });
 const newPiece = (length = 9) => new Uint8Array(new ArrayBuffer(length)).fill(7);
 // An iterator over values whose last step is some work.
-const then = (values, work) => (function* () { yield* values; work(); })();
+const iteratorThatEndsWith = (values, work) => (function* () { yield* values; work(); })();
 // A list of values of which one is read by a getter, which does some work before.
-const reading = (values, place, work) => Object.defineProperty([...values], place, {
+const listWithGetter = (values, place, work) => Object.defineProperty([...values], place, {
   get() { work(); return values[place]; },
 });
 
@@ -347,7 +349,7 @@ test("what an iterator yields is that of its time, and what a list holds is that
     }
     const first = M.slice();
     const two = [new Hash(), new Hash()];
-    Hash.updateMany(two, reading([first, M], 1, () => first.fill(7)));
+    Hash.updateMany(two, listWithGetter([first, M], 1, () => first.fill(7)));
     assert.deepEqual(digests(two), [first.fill(7), M].map((piece) => new Hash().update(piece).hex()));
   }
 });
@@ -358,10 +360,10 @@ test("code that runs while the lists are taken, and changes hashes", () => {
     const make = () => [new Hash(), new Hash().update(M), new Hash()];
     const pieces = [M, KEY, newPiece()];
     for (const call of [
-      (hashes, work) => Hash.updateMany(then(hashes, work), pieces),
-      (hashes, work) => Hash.updateMany(hashes, then(pieces, work)),
-      (hashes, work) => Hash.updateMany(reading(hashes, 2, work), pieces),
-      (hashes, work) => Hash.updateMany(hashes, reading(pieces, 2, work)),
+      (hashes, work) => Hash.updateMany(iteratorThatEndsWith(hashes, work), pieces),
+      (hashes, work) => Hash.updateMany(hashes, iteratorThatEndsWith(pieces, work)),
+      (hashes, work) => Hash.updateMany(listWithGetter(hashes, 2, work), pieces),
+      (hashes, work) => Hash.updateMany(hashes, listWithGetter(pieces, 2, work)),
     ]) {
       let hashes = make();
       call(hashes, () => {
@@ -397,17 +399,17 @@ test("code that runs while the lists are taken, and changes lists", () => {
       ({ message: `${Hash.name}.updateMany: there must be a piece for each hash, not ${pieces} for ${hashes}` });
     // a list of hashes that was taken stays
     const hashes = [hash];
-    Hash.updateMany(hashes, then([M], () => hashes.push(hash, other, 5)));
+    Hash.updateMany(hashes, iteratorThatEndsWith([M], () => hashes.push(hash, other, 5)));
     assert.deepEqual(digests([hash, other]), [M, new Uint8Array(0)].map((message) => new Hash().update(message).hex()));
     // and one that becomes longer or shorter as it is taken has what was read
-    const pieces = reading([M, M], 0, () => { pieces.length = 1; });
+    const pieces = listWithGetter([M, M], 0, () => { pieces.length = 1; });
     assert.throws(() => Hash.updateMany([hash, other], pieces), numbers(1, 2));
-    const growing = reading([M], 0, () => growing.push(M));
+    const growing = listWithGetter([M], 0, () => growing.push(M));
     assert.throws(() => Hash.updateMany([hash], growing), numbers(2, 1));
-    assert.throws(() => Hash.updateMany([hash], then([M, M], () => {})), numbers(2, 1));
+    assert.throws(() => Hash.updateMany([hash], iteratorThatEndsWith([M, M], () => {})), numbers(2, 1));
     // pieces are only asked for when all hashes are there
     const list = [M, M];
-    assert.throws(() => Hash.updateMany(then([hash, other], () => list.pop()), list), numbers(1, 2));
+    assert.throws(() => Hash.updateMany(iteratorThatEndsWith([hash, other], () => list.pop()), list), numbers(1, 2));
     assert.deepEqual(digests([hash, other]), [M, new Uint8Array(0)].map((message) => new Hash().update(message).hex()));
     // an iterator of what is refused is closed
     let isClosed = false;
@@ -423,32 +425,34 @@ test("memory that is taken away, shrinks or grows while the lists are taken", ()
     for (const place of [0, 1]) {
       const [first, second, third] = [newPiece(), newPiece(), newPiece()];
       const gone = ["TypeError", `the memory of piece ${place} is detached or has shrunk`];
-      const pieces = put([M, M], place, first);
-      refuses(Hash, [two, reading(pieces, 1 - place, () => take(first))], gone);
-      refuses(Hash, [reading(two, 1, () => take(second)), put([M, M], place, second)], gone, two);
-      refuses(Hash, [then(two, () => take(third)), put([M, M], place, third)], gone, two);
+      const pieces = withValueAt([M, M], place, first);
+      assertRefused(Hash, [two, listWithGetter(pieces, 1 - place, () => detachBuffer(first))], gone);
+      assertRefused(Hash, [listWithGetter(two, 1, () => detachBuffer(second)), withValueAt([M, M], place, second)],
+        gone, two);
+      assertRefused(Hash, [iteratorThatEndsWith(two, () => detachBuffer(third)), withValueAt([M, M], place, third)],
+        gone, two);
     }
     const buffer = new ArrayBuffer(40, { maxByteLength: 100 });
     const [follows, fixed] = [new Uint8Array(buffer, 4), new Uint8Array(buffer, 4, 30)];
-    const resizing = (piece, length) => reading([piece, KEY], 1, () => buffer.resize(length));
+    const resizing = (piece, length) => listWithGetter([piece, KEY], 1, () => buffer.resize(length));
     for (const length of [100, 20, 4]) {
       const wanted = two[0].copy().update(new Uint8Array(length - 4)).hex();
       Hash.updateMany(two, resizing(follows, length));
       assert.equal(digests(two)[0], wanted);
     }
     for (const piece of [follows, fixed]) {
-      refuses(Hash, [two, resizing(piece, 3)], ["TypeError", "the memory of piece 0 is detached or has shrunk"]);
+      assertRefused(Hash, [two, resizing(piece, 3)], ["TypeError", "the memory of piece 0 is detached or has shrunk"]);
     }
     const copied = newPiece(); // when it comes
     const [wanted] = digests([two[0].copy().update(copied)]);
-    Hash.updateMany(two, then([copied, M], () => take(copied)));
+    Hash.updateMany(two, iteratorThatEndsWith([copied, M], () => detachBuffer(copied)));
     assert.equal(digests(two)[0], wanted);
   }
 });
 
 // ---- what is left
 
-const isState = (bytes) => bytes.some((byte) => byte !== 0);
+const hasNonzeroByte = (bytes) => bytes.some((byte) => byte !== 0);
 
 test("a call that fails anywhere ends all its hashes, or none, and wipe reaches what it has left", () => {
   for (const [Hash] of FAMILIES) {
@@ -456,9 +460,9 @@ test("a call that fails anywhere ends all its hashes, or none, and wipe reaches 
       let [count, ended] = [0, 0];
       for (let hasFailed = true; hasFailed; count++) {
         const states = new Set();
-        const hashes = noteStates(states, () => pieces.map(() => new Hash({ key: KEY }).update(M)));
+        const hashes = recordStatesWritten(states, () => pieces.map(() => new Hash({ key: KEY }).update(M)));
         try {
-          noteStates(states, () => Hash.updateMany(hashes, pieces), count);
+          recordStatesWritten(states, () => Hash.updateMany(hashes, pieces), count);
           hasFailed = false;
         } catch (fault) {
           assert.equal(fault.message, "no stack is left");
@@ -466,9 +470,9 @@ test("a call that fails anywhere ends all its hashes, or none, and wipe reaches 
           ended++;
         }
         for (const hash of hashes) hash.wipe();
-        assert.equal([...states].filter(isState).length, 0, `${count}`);
+        assert.equal([...states].filter(hasNonzeroByte).length, 0, `${count}`);
         new Hash().update(part(0, 2000)).digest(); // the memory is wiped before the next call at the latest
-        assertClean();
+        assertMemoriesAreWiped();
       }
       assert.ok(ended >= pieces.length, `${ended} calls of fill and set`);
     }
@@ -476,17 +480,19 @@ test("a call that fails anywhere ends all its hashes, or none, and wipe reaches 
     const hashes = [new Hash(), new Hash().update(M)];
     const before = digests(hashes);
     for (const count of [0, 1]) { // of the copies of what an iterator yields
-      assert.throws(() => noteStates(new Set(), () => Hash.updateMany(hashes, [M, M].values()), count), /no stack/);
+      assert.throws(() => recordStatesWritten(new Set(), () => Hash.updateMany(hashes, [M, M].values()), count),
+        /no stack/);
       assert.deepEqual(digests(hashes), before);
     }
-    const trying = [new Hash(), late(Hash, 2000, Hash === Blake2b ? 128 : 64)];
+    const trying = [new Hash(), hashWithRoomFor(Hash, 2000, Hash === Blake2b ? 128 : 64)];
     const wanted = digests(trying);
     for (const count of [0, 1, 2]) { // of the trial of the late one
-      assert.throws(() => noteStates(new Set(), () => Hash.updateMany(trying, [M, part(0, 2000)]), count), /no stack/);
+      assert.throws(() => recordStatesWritten(new Set(), () => Hash.updateMany(trying, [M, part(0, 2000)]), count),
+        /no stack/);
       assert.deepEqual(digests(trying), wanted);
-      assertClean();
+      assertMemoriesAreWiped();
     }
-    absorb(Hash, trying, [M, part(0, 2000)]);
+    assertAbsorbs(Hash, trying, [M, part(0, 2000)]);
   }
 });
 
@@ -494,13 +500,13 @@ test("states are wiped as those of any hash", () => {
   for (const [Hash] of FAMILIES) {
     for (const end of ["digest", "hex", "wipe"]) {
       const states = new Set();
-      noteStates(states, () => {
+      recordStatesWritten(states, () => {
         const hashes = listOf(9, (i) => new Hash({ key: KEY }).update(part(0, 300 * i)));
         Hash.updateMany(hashes, hashes.map((_, i) => part(0, 2400 - 300 * i)));
         for (const hash of hashes) hash[end]();
       });
       assert.ok(states.size >= 9);
-      assert.equal([...states].filter(isState).length, 0, end);
+      assert.equal([...states].filter(hasNonzeroByte).length, 0, end);
     }
   }
 });

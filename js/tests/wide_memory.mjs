@@ -3,7 +3,7 @@
 //
 //   node --experimental-wasm-memory64 tests/wide_memory.mjs COUNT
 import { readFileSync } from "node:fs";
-import { assertClean, casesOf } from "./common.mjs";
+import { assertMemoriesAreWiped, conformanceCasesOf } from "./common.mjs";
 import { HASHES, tryCases } from "./conformance_driver.mjs";
 
 const { Instance, Module } = WebAssembly;
@@ -24,8 +24,8 @@ WebAssembly.Instance = class {
   }
 };
 const vulfsjor = await import("../index.js");
-const all = HASHES.map((hash) => tryCases(vulfsjor, casesOf(hash, Number(process.argv[2]))));
-assertClean();
+const all = HASHES.map((hash) => tryCases(vulfsjor, conformanceCasesOf(hash, Number(process.argv[2]))));
+assertMemoriesAreWiped();
 console.log(JSON.stringify({
   cases: all.reduce((sum, { cases }) => sum + cases, 0), wrong: all.flatMap(({ wrong }) => wrong).slice(0, 5),
 }));

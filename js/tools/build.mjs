@@ -14,17 +14,17 @@
 import { createHash } from "node:crypto";
 import { readFileSync, writeFileSync } from "node:fs";
 import { fileURLToPath } from "node:url";
-import { bundle, shorten } from "./bundle.mjs";
+import { bundle, stripCommentsAndIndentation } from "./bundle.mjs";
 import { lower } from "./memory32.mjs";
 
-const here = (path) => fileURLToPath(new URL(path, import.meta.url));
-const MODULE = here("../../dist/wasm/vulfsjor.wasm");
+const pathFromHere = (path) => fileURLToPath(new URL(path, import.meta.url));
+const MODULE = pathFromHere("../../dist/wasm/vulfsjor.wasm");
 const sha256 = (bytes, encoding = "hex") => createHash("sha256").update(bytes).digest(encoding);
 
 function checkDist() {
-  const lines = readFileSync(here("../../dist/MANIFEST"), "utf8").matchAll(/^([0-9a-f]{64}) {2}([^.].*)$/gm);
+  const lines = readFileSync(pathFromHere("../../dist/MANIFEST"), "utf8").matchAll(/^([0-9a-f]{64}) {2}([^.].*)$/gm);
   for (const [, sum, name] of lines) {
-    if (sha256(readFileSync(here(`../../dist/${name}`))) !== sum) {
+    if (sha256(readFileSync(pathFromHere(`../../dist/${name}`))) !== sum) {
       console.error(`build: dist/${name} is not as in dist/MANIFEST`);
       process.exit(1);
     }
@@ -36,11 +36,11 @@ const CALLS = [
   "", "_init_salt_personal", "_init_tree", "_set_last_node", "_update", "_final", "_verify",
   "_reset", "_save", "_load",
 ];
-const exportsOf = (name) => CALLS.map((call) => `vulfsjor_ffi_${name}${call}`);
+const exportNamesOf = (name) => CALLS.map((call) => `vulfsjor_ffi_${name}${call}`);
 const MODULES = {
   "wasm.js": undefined, // all functions
-  "wasm_blake2b.js": [...exportsOf("blake2b"), "vulfsjor_ffi_memcmp"],
-  "wasm_blake2s.js": exportsOf("blake2s"),
+  "wasm_blake2b.js": [...exportNamesOf("blake2b"), "vulfsjor_ffi_memcmp"],
+  "wasm_blake2s.js": exportNamesOf("blake2s"),
 };
 
 function wasmOf(module, names) {
@@ -72,8 +72,8 @@ export const line = "${sha256(readFileSync(MODULE))}  wasm/vulfsjor.wasm";
 
 // The module comes with the first range, so the text leaves it out.
 function workerText() {
-  const modules = Object.keys(MODULES).map((name) => here(`../src/${name}`));
-  const script = shorten(bundle(here("../src/vulfsjor_worker.js"), modules));
+  const modules = Object.keys(MODULES).map((name) => pathFromHere(`../src/${name}`));
+  const script = stripCommentsAndIndentation(bundle(pathFromHere("../src/vulfsjor_worker.js"), modules));
   return `// Made by tools/build.mjs from vulfsjor_worker.js and what it imports. Do not edit.
 
 /** The script of a worker. */
@@ -84,8 +84,8 @@ export const text =
 
 // The page's policy allows its own script and style (by their hashes), WebAssembly, and workers
 // from blob: URLs. It allows nothing else, and no connection.
-function pageOf() {
-  const read = (name) => readFileSync(here(`../demo/${name}`), "utf8");
+function demoPage() {
+  const read = (name) => readFileSync(pathFromHere(`../demo/${name}`), "utf8");
   const script = read("manifest.js") + read("page.js");
   const style = read("page.css");
   const allow = (text) => `'sha256-${sha256(text, "base64")}'`;
@@ -97,8 +97,8 @@ function pageOf() {
     ].join("; "),
     script,
     style,
-    worker: bundle(here("../demo/worker.js")),
-    version: JSON.parse(readFileSync(here("../package.json"), "utf8")).version,
+    worker: bundle(pathFromHere("../demo/worker.js")),
+    version: JSON.parse(readFileSync(pathFromHere("../package.json"), "utf8")).version,
     module: sha256(readFileSync(MODULE)),
   };
   for (const [name, text] of Object.entries(values)) {
@@ -110,16 +110,16 @@ function pageOf() {
 }
 
 function check(name, text) {
-  if (readFileSync(here(name), "utf8") === text) return;
-  console.error(`build: ${here(name)} is not what this script makes`);
+  if (readFileSync(pathFromHere(name), "utf8") === text) return;
+  console.error(`build: ${pathFromHere(name)} is not what this script makes`);
   process.exitCode = 1;
 }
 
 checkDist();
 const [option, file] = process.argv.slice(2);
-if (option === "--page" && file !== undefined) writeFileSync(file, pageOf());
+if (option === "--page" && file !== undefined) writeFileSync(file, demoPage());
 else if (option === undefined || option === "--check") {
-  const put = option === undefined ? (name, text) => writeFileSync(here(name), text) : check;
+  const put = option === undefined ? (name, text) => writeFileSync(pathFromHere(name), text) : check;
   for (const [name, exports] of Object.entries(MODULES)) {
     put(`../src/${name}`, wasmOf(readFileSync(MODULE), exports));
   }

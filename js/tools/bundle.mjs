@@ -49,6 +49,6 @@ export function bundle(file, leftOut = []) {
 }
 
 /** The same script without comments that have lines of their own, indentation and empty lines. */
-export function shorten(script) {
+export function stripCommentsAndIndentation(script) {
   return script.replace(/^ *\/\*\*?[^]*?\*\/$|^ *\/\/.*$/gm, "").replace(/^\s+/gm, "");
 }

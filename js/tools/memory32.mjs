@@ -80,7 +80,7 @@ class Body {
     this.calls = []; // the functions that it calls
   }
   // The index of an added local of this type.
-  spare(type) {
+  addLocal(type) {
     let place = this.added.indexOf(type);
     if (place < 0) place = this.added.push(type) - 1;
     return this.count + place;
@@ -89,19 +89,19 @@ class Body {
     for (const byte of bytes) this.out.push(byte);
   }
   set(type) {
-    this.push(0x21, ...unsigned(this.spare(type)));
+    this.push(0x21, ...unsigned(this.addLocal(type)));
   }
   get(type) {
-    this.push(0x20, ...unsigned(this.spare(type)));
+    this.push(0x20, ...unsigned(this.addLocal(type)));
   }
   // Wraps the address below a value of this type on the stack.
-  wrapUnder(type) {
+  wrapAddressBelow(type) {
     this.set(type);
     this.push(WRAP);
     this.get(type);
   }
   // Wraps address, value and length of a fill, or address, address and length of a copy.
-  wrapThree(isCopy) {
+  wrapThreeOperands(isCopy) {
     this.set(I64);
     if (isCopy) this.push(WRAP);
     this.set(I32);
@@ -115,12 +115,12 @@ class Body {
 const STORES = [I32, I64, F32, F64, I32, I32, I64, I64, I64]; // from 0x36 on
 
 // Skips alignment and offset of an access; refuses a second memory.
-function skipPlace(reader) {
+function skipAlignmentAndOffset(reader) {
   if (reader.number() > 0x3f) throw new Error("lower: several memories");
   reader.number();
 }
 
-const refuse = (what, code) => {
+const throwUnknown = (what, code) => {
   throw new Error(`lower: ${what} 0x${code.toString(16)} is not known`);
 };
 
@@ -129,26 +129,26 @@ function lowerVector(reader, body) {
   const code = reader.number();
   const isLane = code >= 84 && code <= 91;
   if (code <= 10 || code === 92 || code === 93) body.push(WRAP);
-  else if (code === 11 || isLane) body.wrapUnder(V128);
-  if (code <= 11 || isLane || code === 92 || code === 93) skipPlace(reader);
+  else if (code === 11 || isLane) body.wrapAddressBelow(V128);
+  if (code <= 11 || isLane || code === 92 || code === 93) skipAlignmentAndOffset(reader);
   if (code === 12 || code === 13) reader.take(16);
   else if ((code >= 21 && code <= 34) || isLane) reader.take(1);
-  else if (code > 0xff) refuse("instruction 0xfd", code);
+  else if (code > 0xff) throwUnknown("instruction 0xfd", code);
 }
 
 // An instruction after 0xfc.
 function lowerMiscellaneous(reader, body) {
   const code = reader.number();
   if (code <= 7) return; // conversions
-  if (code !== 10 && code !== 11) refuse("instruction 0xfc", code);
-  body.wrapThree(code === 10);
+  if (code !== 10 && code !== 11) throwUnknown("instruction 0xfc", code);
+  body.wrapThreeOperands(code === 10);
   if (reader.take(code === 10 ? 2 : 1).some((memory) => memory !== 0)) {
     throw new Error("lower: several memories");
   }
 }
 
 // Instructions without immediates: unreachable, nop, else, end, return, drop, select, arithmetic.
-const isPlain = (code) =>
+const hasNoImmediates = (code) =>
   [0x00, 0x01, 0x05, 0x0b, 0x0f, 0x1a, 0x1b].includes(code) || (code >= 0x45 && code <= 0xc4);
 
 function lowerInstruction(reader, body) {
@@ -156,10 +156,10 @@ function lowerInstruction(reader, body) {
   const code = reader.byte();
   if (code >= 0x28 && code <= 0x35) {
     body.push(WRAP);
-    skipPlace(reader);
+    skipAlignmentAndOffset(reader);
   } else if (code >= 0x36 && code <= 0x3e) {
-    body.wrapUnder(STORES[code - 0x36]);
-    skipPlace(reader);
+    body.wrapAddressBelow(STORES[code - 0x36]);
+    skipAlignmentAndOffset(reader);
   } else if (code >= 0x02 && code <= 0x04) {
     reader.skip(); // the type of a block
   } else if (code === 0x10) {
@@ -176,8 +176,8 @@ function lowerInstruction(reader, body) {
     lowerMiscellaneous(reader, body);
   } else if (code === 0xfd) {
     lowerVector(reader, body);
-  } else if (!isPlain(code)) {
-    refuse("instruction", code);
+  } else if (!hasNoImmediates(code)) {
+    throwUnknown("instruction", code);
   }
   body.push(...reader.bytes.subarray(begin, reader.at));
 }
@@ -260,7 +260,7 @@ const TRAP = [0, 0x00, 0x0b]; // the body of a function that nothing calls: no l
 // The bodies of these functions and of those that they call, and TRAP for the others, so that each
 // keeps its number. No other can run, since there are no tables of code and no function starts by
 // itself.
-function reachable(bodies, functions) {
+function keepReachableBodies(bodies, functions) {
   const reached = new Set(functions);
   for (const index of reached) bodies[index].calls.forEach((callee) => reached.add(callee));
   return bodies.map((body, index) => (reached.has(index) ? body : { lowered: TRAP }));
@@ -293,11 +293,11 @@ export function lower(bytes, names) {
     else if (id === 7) ({ functions: exported, section: lowered } = selectExports(section, names));
     else if (id === 10) {
       const all = each((i) => lowerFunction(section.take(section.number()), functions[i]));
-      const bodies = names === undefined ? all : reachable(all, exported);
+      const bodies = names === undefined ? all : keepReachableBodies(all, exported);
       const sized = bodies.map((body) => [...unsigned(body.lowered.length), ...body.lowered]);
       lowered = [unsigned(bodies.length), ...sized].flat();
     } else if (id === 11) lowered = lowerData(section);
-    else if (id !== 6) refuse("section", id);
+    else if (id !== 6) throwUnknown("section", id);
     out.push(id, ...unsigned(lowered.length));
     for (const byte of lowered) out.push(byte);
   }

@@ -39,7 +39,7 @@ def read_at(file, length, start):
     return piece
 
 
-def hash_range(path, length, leaf_size, first, leaves):
+def hash_leaf_range(path, length, leaf_size, first, leaves):
     """The digests of this many leaves, from leaf `first` on, of a file of this length. Runs on a
     worker."""
     start = first * leaf_size
@@ -60,7 +60,7 @@ def tree_root(client, path, leaf_size, range_bytes=RANGE_BYTES):
     ranges = [(first, min(part, leaves - first)) for first in range(0, leaves, part)]
     # pure=False: the file may have changed since an earlier call, whose results Dask would
     # otherwise reuse.
-    tasks = [client.submit(hash_range, path, length, leaf_size, *each, pure=False)
+    tasks = [client.submit(hash_leaf_range, path, length, leaf_size, *each, pure=False)
              for each in ranges]
     answers = client.gather(tasks)
     for (first, count), answer in zip(ranges, answers):

@@ -17,7 +17,7 @@ int view_of(PyObject *data, Py_buffer *view) {
     return -1;
 }
 
-int range_of(PyObject *given, uint64_t least, uint64_t most, const char *name, uint64_t *number) {
+int to_number_in_range(PyObject *given, uint64_t least, uint64_t most, const char *name, uint64_t *number) {
     if (!PyLong_Check(given) || PyBool_Check(given)) {
         PyErr_Format(PyExc_TypeError, "%s must be an integer", name);
         return -1;
@@ -40,34 +40,34 @@ int to_size(PyObject *given, void *size) {
     return 1;
 }
 
-int check(int number, int least, int most, const char *name, const char *unit) {
+int check_size_in_range(int number, int least, int most, const char *name, const char *unit) {
     if (least <= number && number <= most) return 0;
     PyErr_Format(PyExc_ValueError, "%s must be between %d and %d%s", name, least, most, unit);
     return -1;
 }
 
-int check_text(const Py_buffer *text, int most, const char *name) {
+int check_text_length(const Py_buffer *text, int most, const char *name) {
     if (text->len <= most) return 0;
     PyErr_Format(PyExc_ValueError, "maximum %s length is %d bytes", name, most);
     return -1;
 }
 
-int check_key(const Py_buffer *key, int most) {
+int check_key_length(const Py_buffer *key, int most) {
     if (1 <= key->len && key->len <= most) return 0;
     PyErr_Format(PyExc_ValueError, "key must have between 1 and %d bytes", most);
     return -1;
 }
 
-void release(Py_buffer *text) {
+void release_buffer(Py_buffer *text) {
     if (text->obj) PyBuffer_Release(text);
 }
 
-PyObject *refused(PyObject *exception, const char *why) {
+PyObject *raise_exception(PyObject *exception, const char *why) {
     PyErr_SetString(exception, why);
     return NULL;
 }
 
-void take_lock(PyThread_type_lock lock) {
+void acquire_lock(PyThread_type_lock lock) {
     if (lock && !PyThread_acquire_lock(lock, 0)) {
         Py_BEGIN_ALLOW_THREADS
         PyThread_acquire_lock(lock, 1);
@@ -75,11 +75,11 @@ void take_lock(PyThread_type_lock lock) {
     }
 }
 
-void leave_lock(PyThread_type_lock lock) {
+void release_lock(PyThread_type_lock lock) {
     if (lock) PyThread_release_lock(lock);
 }
 
-PyObject *digits_of(const uint8_t *bytes, Py_ssize_t length) {
+PyObject *hex_string_of(const uint8_t *bytes, Py_ssize_t length) {
     char digits[128];
     for (Py_ssize_t i = 0; i < length; i++) {
         digits[2 * i] = "0123456789abcdef"[bytes[i] >> 4];

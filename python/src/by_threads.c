@@ -43,20 +43,20 @@ static int report_to_python(void *context, uint64_t count) {
 }
 
 /* A job for a message under the parameters of a tree, without bytes. */
-static job job_of(const vulfsjor_tree_state *tree, listener *to) {
+static job tree_job_of(const vulfsjor_tree_state *tree, listener *to) {
     return (job){.salt = tree->salt, .personal = tree->personal, .saltlen = (size_t)tree->salt_length,
                  .personallen = (size_t)tree->personal_length, .leaf_length = vulfsjor_tree_leaf_length(tree),
                  .gate = GATE, .progress = report_to_python, .context = to};
 }
 
 /* The next two begin and end what runs without the GIL. */
-static int let_go(listener *to) {
+static int release_gil_for_job(listener *to) {
     to->thread = PyEval_SaveThread();
-    return begin_call();
+    return disable_cancellation();
 }
 
-static void take_up(listener *to, int before) {
-    end_call(before);
+static void retake_gil_and_cancellation(listener *to, int before) {
+    restore_cancellation(before);
     PyEval_RestoreThread(to->thread);
 }
 
@@ -69,7 +69,7 @@ static int raise_error(int error) {
 }
 
 /* The same of a file. */
-static int raised_of_file(int error, int file, uint64_t length, PyObject *path) {
+static int raise_error_of_file(int error, int file, uint64_t length, PyObject *path) {
     const char *shorter = "the file became shorter while it was read";
     unsigned char last;
     PyObject *exception;
@@ -87,11 +87,11 @@ static int raised_of_file(int error, int file, uint64_t length, PyObject *path) 
 
 int root_by_threads(const vulfsjor_tree_state *tree, uint8_t *out, const Py_buffer *view, unsigned threads) {
     listener to = {0};
-    job j = job_of(tree, &to);
-    int before = let_go(&to), error;
+    job j = tree_job_of(tree, &to);
+    int before = release_gil_for_job(&to), error;
     j.bytes = vulfsjor_text(view->buf);
     error = root_of_bytes(&j, out, vulfsjor_tree_digest_size(tree), (size_t)view->len, threads);
-    take_up(&to, before);
+    retake_gil_and_cancellation(&to, before);
     return raise_error(error);
 }
 
@@ -99,23 +99,23 @@ int root_of_regular_file(const vulfsjor_tree_state *tree, uint8_t *out, int file
                          PyObject *path, PyObject *progress) {
     const size_t size = vulfsjor_tree_digest_size(tree);
     listener to = {.progress = progress};
-    job j = job_of(tree, &to);
-    int before = let_go(&to), error = EFBIG;
+    job j = tree_job_of(tree, &to);
+    int before = release_gil_for_job(&to), error = EFBIG;
     j.file = file;
-    if (!plan_message(&j, 0, length, threads)) error = hash_message(&j, size);
+    if (!plan_message(&j, 0, length, threads)) error = hash_leaves_into_root(&j, size);
     if (!error && to.told < length) error = report_progress(&j, length); /* other threads have hashed the last bytes */
-    if (!error) error = write_root(&j, out, size);
-    take_up(&to, before);
-    return raised_of_file(error, file, length, path);
+    if (!error) error = finalize_root(&j, out, size);
+    retake_gil_and_cancellation(&to, before);
+    return raise_error_of_file(error, file, length, path);
 }
 
 int update_tree_by_threads(vulfsjor_tree_state *tree, const Py_buffer *view, unsigned threads) {
     listener to = {0};
-    job j = job_of(tree, &to);
-    int before = let_go(&to), error;
+    job j = tree_job_of(tree, &to);
+    int before = release_gil_for_job(&to), error;
     j.state = tree;
     j.bytes = vulfsjor_text(view->buf);
-    error = absorb_input(&j, tree, (size_t)view->len, threads);
-    take_up(&to, before);
+    error = absorb_bytes_by_threads(&j, tree, (size_t)view->len, threads);
+    retake_gil_and_cancellation(&to, before);
     return raise_error(error);
 }

@@ -61,7 +61,7 @@ PARALLEL(blake2sp, BLAKE2SP)
 /* ---- Arguments */
 
 /* A number from 0 to 2^64 - 1, or 0 if there is none, with hashlib's exceptions. */
-static int number_of(PyObject *given, uint64_t *number) {
+static int to_uint64(PyObject *given, uint64_t *number) {
     int beyond;
     long long small;
     *number = 0;
@@ -80,7 +80,7 @@ static int number_of(PyObject *given, uint64_t *number) {
 }
 
 /* As hashlib refuses it. */
-static int check_most(uint64_t number, uint64_t most, const char *name) {
+static int check_at_most(uint64_t number, uint64_t most, const char *name) {
     if (number <= most) return 0;
     PyErr_Format(PyExc_OverflowError, "%s is too large", name);
     return -1;
@@ -89,7 +89,7 @@ static int check_most(uint64_t number, uint64_t most, const char *name) {
 /* ---- Hash objects */
 
 /* Absorbs the bytes. 0, or -1 with an exception. */
-static int absorb(hash *self, PyObject *data) {
+static int absorb_data(hash *self, PyObject *data) {
     Py_buffer view;
     int status, is_long;
     if (view_of(data, &view)) return -1;
@@ -102,9 +102,9 @@ static int absorb(hash *self, PyObject *data) {
         PyThread_release_lock(self->lock);
         Py_END_ALLOW_THREADS
     } else {
-        take_lock(self->lock);
+        acquire_lock(self->lock);
         status = self->f->update(&self->run, view.buf, (size_t)view.len);
-        leave_lock(self->lock);
+        release_lock(self->lock);
     }
     PyBuffer_Release(&view);
     if (status) PyErr_SetString(PyExc_OverflowError, "2^64 bytes or more");
@@ -137,22 +137,22 @@ typedef struct given {
 } given;
 
 static void release_given(given *g) {
-    release(&g->key);
-    release(&g->salt);
-    release(&g->person);
+    release_buffer(&g->key);
+    release_buffer(&g->salt);
+    release_buffer(&g->person);
 }
 
 /* Checks the arguments in hashlib's order, and fills in the tree parameters. */
 static int check_given(given *g, const family *f) {
     uint64_t leaf_size;
-    if (number_of(g->leaf, &leaf_size) || number_of(g->offset, &g->tree.node_offset) ||
-        check(g->size, 1, f->out, "digest_size", " bytes") ||
-        check_text(&g->salt, f->salt, "salt") || check_text(&g->person, f->person, "person") ||
-        check(g->fanout, 0, 255, "fanout", "") || check(g->depth, 1, 255, "depth", "") ||
-        check_most(leaf_size, UINT32_MAX, "leaf_size") ||
-        check_most(g->tree.node_offset, f->last_offset, "node_offset") ||
-        check(g->node_depth, 0, 255, "node_depth", "") ||
-        check(g->inner, 0, f->out, "inner_size", "") || check_text(&g->key, f->key, "key"))
+    if (to_uint64(g->leaf, &leaf_size) || to_uint64(g->offset, &g->tree.node_offset) ||
+        check_size_in_range(g->size, 1, f->out, "digest_size", " bytes") ||
+        check_text_length(&g->salt, f->salt, "salt") || check_text_length(&g->person, f->person, "person") ||
+        check_size_in_range(g->fanout, 0, 255, "fanout", "") || check_size_in_range(g->depth, 1, 255, "depth", "") ||
+        check_at_most(leaf_size, UINT32_MAX, "leaf_size") ||
+        check_at_most(g->tree.node_offset, f->last_offset, "node_offset") ||
+        check_size_in_range(g->node_depth, 0, 255, "node_depth", "") ||
+        check_size_in_range(g->inner, 0, f->out, "inner_size", "") || check_text_length(&g->key, f->key, "key"))
         return -1;
     g->tree.leaf_length = (uint32_t)leaf_size;
     g->tree.fanout = (uint8_t)g->fanout;
@@ -168,7 +168,7 @@ static int initialize(hash *self, const given *g) {
         PyErr_SetString(PyExc_SystemError, "the library refuses what was checked");
         return -1;
     }
-    return g->data ? absorb(self, g->data) : 0;
+    return g->data ? absorb_data(self, g->data) : 0;
 }
 
 /* Reads the arguments. 0 if one has the wrong type or name, with an exception. */
@@ -186,7 +186,7 @@ static int parse_arguments(PyObject *args, PyObject *words, const family *f, giv
                                        &g->secure);
 }
 
-static PyObject *make(PyTypeObject *type, PyObject *args, PyObject *words, const family *f) {
+static PyObject *make_hash(PyTypeObject *type, PyObject *args, PyObject *words, const family *f) {
     given g = {.size = f->out, .fanout = 1, .depth = 1, .secure = 1};
     hash *self = NULL;
     if (!words && PyTuple_Size(args) <= 1) { /* nothing but data, which needs no search for words */
@@ -201,7 +201,7 @@ static PyObject *make(PyTypeObject *type, PyObject *args, PyObject *words, const
 }
 
 /* Converts allow_short (O&), which is True or False. */
-static int to_allowed(PyObject *object, void *allowed) {
+static int to_allow_short(PyObject *object, void *allowed) {
     *(int *)allowed = object == Py_True;
     if (PyBool_Check(object)) return 1;
     PyErr_SetString(PyExc_TypeError, "allow_short must be True or False");
@@ -209,9 +209,9 @@ static int to_allowed(PyObject *object, void *allowed) {
 }
 
 /* Whether a tag is too short for a MAC, which is then an exception. */
-static int is_short(int size, int allowed, int most) {
+static int raise_if_tag_is_short(int size, int allowed, int most) {
     if (size < 1 || size >= VULFSJOR_TAGBYTES_MIN || allowed) return 0;
-    return check(size, VULFSJOR_TAGBYTES_MIN, most, "digest_size", " bytes, or allow_short be True");
+    return check_size_in_range(size, VULFSJOR_TAGBYTES_MIN, most, "digest_size", " bytes, or allow_short be True");
 }
 
 /* An object of a message authentication code: the hash with a key, and never without. */
@@ -222,9 +222,9 @@ static PyObject *make_mac(PyTypeObject *type, PyObject *args, PyObject *words, c
     hash *self = NULL;
     int allowed = 0;
     if (!PyArg_ParseTupleAndKeywords(args, words, arguments, names, &g.key, &g.data, to_size,
-                                     &g.size, &g.salt, &g.person, to_allowed, &allowed))
+                                     &g.size, &g.salt, &g.person, to_allow_short, &allowed))
         return NULL;
-    if (!check_key(&g.key, f->key) && !is_short(g.size, allowed, f->out) && !check_given(&g, f))
+    if (!check_key_length(&g.key, f->key) && !raise_if_tag_is_short(g.size, allowed, f->out) && !check_given(&g, f))
         self = new_object(type, f, g.size, 1);
     if (self) self->is_mac = 1;
     if (self && initialize(self, &g)) Py_CLEAR(self);
@@ -232,7 +232,7 @@ static PyObject *make_mac(PyTypeObject *type, PyObject *args, PyObject *words, c
     return (PyObject *)self;
 }
 
-static void end_of_life(PyObject *object) {
+static void wipe_and_dealloc(PyObject *object) {
     hash *self = (hash *)object;
     PyTypeObject *type = Py_TYPE(object);
     self->f->wipe(&self->run);
@@ -242,19 +242,19 @@ static void end_of_life(PyObject *object) {
 }
 
 hash *hash_of(PyObject *object) {
-    return PyType_GetSlot(Py_TYPE(object), Py_tp_dealloc) == (void *)end_of_life ? (hash *)object : NULL;
+    return PyType_GetSlot(Py_TYPE(object), Py_tp_dealloc) == (void *)wipe_and_dealloc ? (hash *)object : NULL;
 }
 
 static PyObject *update(PyObject *self, PyObject *data) {
-    if (absorb((hash *)self, data)) return NULL;
+    if (absorb_data((hash *)self, data)) return NULL;
     Py_RETURN_NONE;
 }
 
 /* Copies the state as it is now. The caller must end the copy, which wipes it. */
 static void copy_state(hash *self, state *copied) {
-    take_lock(self->lock);
+    acquire_lock(self->lock);
     memcpy(copied, &self->run, self->f->state);
-    leave_lock(self->lock);
+    release_lock(self->lock);
 }
 
 static PyObject *copy(PyObject *object, PyObject *none) {
@@ -288,11 +288,11 @@ static PyObject *hexdigest(PyObject *self, PyObject *none) {
     uint8_t out[64];
     int size = digest_of((hash *)self, out);
     (void)none;
-    return size < 0 ? NULL : digits_of(out, size);
+    return size < 0 ? NULL : hex_string_of(out, size);
 }
 
 /* Whether the view is of the tag, by a copy of the state, which the call wipes. */
-static int is_tag(hash *self, const Py_buffer *view) {
+static int is_digest_of_state(hash *self, const Py_buffer *view) {
     state copied;
     copy_state(self, &copied);
     return !self->f->verify(&copied, view->buf, (size_t)view->len);
@@ -304,17 +304,18 @@ static PyObject *verify(PyObject *object, PyObject *tag) {
     Py_buffer view;
     int is_right;
     if (!self->is_keyed)
-        return refused(PyExc_ValueError, "verify needs a key: compare digests without one with "
+        return raise_exception(PyExc_ValueError, "verify needs a key: compare digests without one with "
                                          "hmac.compare_digest");
     if (self->size < VULFSJOR_TAGBYTES_MIN && !self->is_mac)
-        return refused(PyExc_ValueError, "verify needs a digest_size of at least 16: make an object for shorter "
+        return raise_exception(PyExc_ValueError,
+                               "verify needs a digest_size of at least 16: make an object for shorter "
                                          "tags by blake2b_mac and its like, with allow_short=True");
     if (PyUnicode_Check(tag))
-        return refused(PyExc_TypeError, "the tag must be bytes, as digest() returns, not a string");
+        return raise_exception(PyExc_TypeError, "the tag must be bytes, as digest() returns, not a string");
     if (view_of(tag, &view)) return NULL;
-    is_right = is_tag(self, &view);
+    is_right = is_digest_of_state(self, &view);
     PyBuffer_Release(&view);
-    if (!is_right) return refused(own->invalid_tag, "the tag is not that of the message");
+    if (!is_right) return raise_exception(own->invalid_tag, "the tag is not that of the message");
     Py_RETURN_NONE;
 }
 
@@ -324,11 +325,12 @@ static PyObject *save(PyObject *object, PyObject *none) {
     int status;
     (void)none;
     if (self->is_keyed)
-        return refused(PyExc_ValueError, "an object with a key is not saved: the bytes would be as good as the key");
-    take_lock(self->lock);
+        return raise_exception(PyExc_ValueError,
+                               "an object with a key is not saved: the bytes would be as good as the key");
+    acquire_lock(self->lock);
     status = self->f->save(&self->run, saved);
-    leave_lock(self->lock);
-    if (status) return refused(PyExc_SystemError, "the library refuses what was checked");
+    release_lock(self->lock);
+    if (status) return raise_exception(PyExc_SystemError, "the library refuses what was checked");
     return PyBytes_FromStringAndSize((const char *)saved, self->f->saved);
 }
 
@@ -336,7 +338,7 @@ static PyObject *load(PyObject *type, PyObject *saved, const family *f) {
     hash *self = NULL;
     Py_buffer view;
     if (PyUnicode_Check(saved))
-        return refused(PyExc_TypeError, "the saved state must be bytes, as save() returns, not a string");
+        return raise_exception(PyExc_TypeError, "the saved state must be bytes, as save() returns, not a string");
     if (view_of(saved, &view)) return NULL;
     self = new_object((PyTypeObject *)type, f, 0, 0);
     if (self && f->load(&self->run, view.buf, (size_t)view.len, &self->size)) {
@@ -362,17 +364,17 @@ static PyObject *refuse_pickle(PyObject *object, PyObject *protocol) {
     return NULL;
 }
 
-static PyObject *name_of(PyObject *self, void *none) {
+static PyObject *get_name(PyObject *self, void *none) {
     (void)none;
     return PyType_GetName(Py_TYPE(self));
 }
 
-static PyObject *block_of(PyObject *self, void *none) {
+static PyObject *get_block_size(PyObject *self, void *none) {
     (void)none;
     return PyLong_FromLong(((hash *)self)->f->block);
 }
 
-static PyObject *size_of(PyObject *self, void *none) {
+static PyObject *get_digest_size(PyObject *self, void *none) {
     (void)none;
     return PyLong_FromLong(((hash *)self)->size);
 }
@@ -410,9 +412,9 @@ static PyMethodDef methods_b[] = {METHODS, SAVED(load_b), {NULL, NULL, 0, NULL}}
 static PyMethodDef methods_s[] = {METHODS, SAVED(load_s), {NULL, NULL, 0, NULL}};
 
 static PyGetSetDef fields[] = {
-    {"name", name_of, NULL, "The name of the hash function.", NULL},
-    {"block_size", block_of, NULL, "The number of bytes in a block of the hash function.", NULL},
-    {"digest_size", size_of, NULL, "The number of bytes in the digest.", NULL},
+    {"name", get_name, NULL, "The name of the hash function.", NULL},
+    {"block_size", get_block_size, NULL, "The number of bytes in a block of the hash function.", NULL},
+    {"digest_size", get_digest_size, NULL, "The number of bytes in the digest.", NULL},
     {NULL, NULL, NULL, NULL, NULL}};
 
 /* ---- The classes */
@@ -425,11 +427,11 @@ static PyGetSetDef fields[] = {
 /* An object has room for the state of its family only. */
 #define TYPE(f, size, longest, tree, methods, more)                                                \
     static PyObject *make_##f(PyTypeObject *type, PyObject *args, PyObject *words) {               \
-        return make(type, args, words, &f);                                                        \
+        return make_hash(type, args, words, &f);                                                        \
     }                                                                                              \
     static PyType_Slot slots_##f[] = {                                                             \
         {Py_tp_new, make_##f},                                                                     \
-        {Py_tp_dealloc, end_of_life},                                                              \
+        {Py_tp_dealloc, wipe_and_dealloc},                                                              \
         {Py_tp_methods, methods},                                                                  \
         {Py_tp_getset, fields},                                                                    \
         {Py_tp_doc, #f "(data=b'', /, *, digest_size=" #size ", key=b'', salt=b'', person=b'',"    \
@@ -451,7 +453,7 @@ TYPE(blake2sp, 32, 8, "", methods, EXTENSION("BLAKE2sp"))
     }                                                                                              \
     static PyType_Slot slots_##f##_mac[] = {                                                       \
         {Py_tp_new, make_##f##_mac},                                                               \
-        {Py_tp_dealloc, end_of_life},                                                              \
+        {Py_tp_dealloc, wipe_and_dealloc},                                                              \
         {Py_tp_methods, methods},                                                                  \
         {Py_tp_getset, fields},                                                                    \
         {Py_tp_doc, #f "_mac(key, data=b'', *, digest_size=" #size ", salt=b'', person=b'',\n"     \
@@ -470,7 +472,7 @@ MAC(blake2bp, 64, 16, EXTENSION("BLAKE2bp"))
 MAC(blake2sp, 32, 8, EXTENSION("BLAKE2sp"))
 
 /* The next two: 0, or -1 with an exception. */
-static int set_number(PyObject *at, const char *prefix, const char *name, long number) {
+static int set_class_constant(PyObject *at, const char *prefix, const char *name, long number) {
     char whole[64];
     PyObject *object = PyLong_FromLong(number);
     int status = -1;
@@ -482,11 +484,11 @@ static int set_number(PyObject *at, const char *prefix, const char *name, long n
     return status;
 }
 
-static int set_numbers(PyObject *at, const char *prefix, const family *f) {
-    int failed = set_number(at, prefix, "SALT_SIZE", f->salt) ||
-                 set_number(at, prefix, "PERSON_SIZE", f->person) ||
-                 set_number(at, prefix, "MAX_KEY_SIZE", f->key) ||
-                 set_number(at, prefix, "MAX_DIGEST_SIZE", f->out);
+static int set_class_constants(PyObject *at, const char *prefix, const family *f) {
+    int failed = set_class_constant(at, prefix, "SALT_SIZE", f->salt) ||
+                 set_class_constant(at, prefix, "PERSON_SIZE", f->person) ||
+                 set_class_constant(at, prefix, "MAX_KEY_SIZE", f->key) ||
+                 set_class_constant(at, prefix, "MAX_DIGEST_SIZE", f->out);
     return failed ? -1 : 0;
 }
 
@@ -494,7 +496,7 @@ static int set_numbers(PyObject *at, const char *prefix, const family *f) {
 static PyObject *add_class(PyObject *module, PyObject *type_of_types, PyType_Spec *spec,
                            const family *f) {
     PyObject *type = PyType_FromModuleAndSpec(module, spec, NULL);
-    if (!type || set_numbers(type, "", f)) {
+    if (!type || set_class_constants(type, "", f)) {
         Py_XDECREF(type);
         return NULL;
     }
@@ -516,7 +518,7 @@ int add_hash_types(PyObject *module, PyObject *type_of_types) {
     for (int i = 0; !failed && i < 4; i++) {
         PyObject *type = add_class(module, type_of_types, all[i].spec, all[i].f);
         PyObject *mac = type ? add_class(module, type_of_types, all[i].mac, all[i].f) : NULL;
-        failed = !mac || set_numbers(module, all[i].f->prefix, all[i].f);
+        failed = !mac || set_class_constants(module, all[i].f->prefix, all[i].f);
         Py_XDECREF(type);
         Py_XDECREF(mac);
     }

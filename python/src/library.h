@@ -31,33 +31,33 @@ enum { LET_OTHERS_RUN_AT = 2048 };
 int view_of(PyObject *data, Py_buffer *view);
 
 /* A number from least to most: ValueError for each other number, whatever its size. */
-int range_of(PyObject *given, uint64_t least, uint64_t most, const char *name, uint64_t *number);
+int to_number_in_range(PyObject *given, uint64_t least, uint64_t most, const char *name, uint64_t *number);
 
-/* Converts for PyArg_ParseTuple (O&): a number that no int holds becomes one that `check` refuses
+/* Converts for PyArg_ParseTuple (O&): a number that no int holds becomes one that `check_size_in_range` refuses
  * too. */
 int to_size(PyObject *given, void *size);
 
 /* The number is from least to most. */
-int check(int number, int least, int most, const char *name, const char *unit);
+int check_size_in_range(int number, int least, int most, const char *name, const char *unit);
 
 /* The text is not longer than this. */
-int check_text(const Py_buffer *text, int most, const char *name);
+int check_text_length(const Py_buffer *text, int most, const char *name);
 
 /* The key is not empty, and not longer than this. */
-int check_key(const Py_buffer *key, int most);
+int check_key_length(const Py_buffer *key, int most);
 
 /* Releases a view, if there is one. */
-void release(Py_buffer *text);
+void release_buffer(Py_buffer *text);
 
 /* Sets the exception and returns NULL. */
-PyObject *refused(PyObject *exception, const char *why);
+PyObject *raise_exception(PyObject *exception, const char *why);
 
 /* ---- Locks. A lock is held while a call works on a state, since an update of many bytes lets other
  * threads run, and without the GIL all run at once. A lock that is NULL is one that nobody needs
  * yet. */
 
-void take_lock(PyThread_type_lock lock);
-void leave_lock(PyThread_type_lock lock);
+void acquire_lock(PyThread_type_lock lock);
+void release_lock(PyThread_type_lock lock);
 
 /* ---- What a module keeps, one in each interpreter. */
 
@@ -66,7 +66,7 @@ typedef struct classes {
 } classes;
 
 /* The digits of at most 64 bytes, as a string. */
-PyObject *digits_of(const uint8_t *bytes, Py_ssize_t length);
+PyObject *hex_string_of(const uint8_t *bytes, Py_ssize_t length);
 
 /* ---- library.c: the classes of hashes and MACs, whose class this is. */
 int add_hash_types(PyObject *module, PyObject *type_of_types);

@@ -6,15 +6,15 @@
 
 /* ---- Arguments of several objects */
 
-static void let_go(messages *m) {
+static void release_messages(messages *m) {
     while (m->count > 0) PyBuffer_Release(&m->views[--m->count]);
     PyMem_Free(m->views);
     PyMem_Free(m->texts);
 }
 
-/* Takes hold of the objects of a tuple. 0, or -1 with an exception. let_go follows in either
+/* Takes hold of the objects of a tuple. 0, or -1 with an exception. release_messages follows in either
  * case. */
-static int hold_tuple(messages *m, PyObject *tuple) {
+static int get_buffers_of_tuple(messages *m, PyObject *tuple) {
     Py_ssize_t count = PyTuple_Size(tuple);
     m->count = 0;
     m->views = PyMem_Calloc((size_t)count, sizeof *m->views);
@@ -33,10 +33,10 @@ static int hold_tuple(messages *m, PyObject *tuple) {
 }
 
 /* Whether this is one object, and not several: a string, or a buffer of single bytes. */
-static int is_one(PyObject *data) {
+static int is_single_object(PyObject *data) {
     const char *kind;
     Py_buffer view;
-    int is_one;
+    int is_single_object;
     if (PyUnicode_Check(data)) return 1;
     if (!PyObject_CheckBuffer(data)) return 0;
     if (PyObject_GetBuffer(data, &view, PyBUF_FULL_RO)) {
@@ -44,15 +44,15 @@ static int is_one(PyObject *data) {
         return 0;
     }
     kind = view.format ? view.format + strspn(view.format, "<>=@!") : "B";
-    is_one = view.ndim == 1 && strchr("Bbc", *kind);
+    is_single_object = view.ndim == 1 && strchr("Bbc", *kind);
     PyBuffer_Release(&view);
-    return is_one;
+    return is_single_object;
 }
 
 /* Refuses one object instead of several of this kind, and what has no order. 0, or -1 with an
  * exception. */
-static int check_several(PyObject *data, const char *name, const char *kind) {
-    if (is_one(data))
+static int check_is_list_of_several(PyObject *data, const char *name, const char *kind) {
+    if (is_single_object(data))
         PyErr_Format(PyExc_TypeError, "%s must be several, such as a list of %s, not one", name,
                      kind);
     else if (PyAnySet_Check(data))
@@ -66,12 +66,12 @@ static int check_several(PyObject *data, const char *name, const char *kind) {
 
 /* Whether this is a list, a tuple or the rows of a buffer: what they hold is there all at once, and
  * not copied. */
-static int is_there(PyObject *data) {
+static int is_list_tuple_or_rows(PyObject *data) {
     return PyList_CheckExact(data) || PyTuple_CheckExact(data) || PyObject_CheckBuffer(data);
 }
 
 /* Bytes that stay what they are: the message itself if it is bytes, and a copy of any other. */
-static PyObject *kept(PyObject *message) {
+static PyObject *immutable_bytes_of(PyObject *message) {
     PyObject *copied;
     Py_buffer view;
     if (PyBytes_CheckExact(message)) return Py_NewRef(message);
@@ -84,8 +84,8 @@ static PyObject *kept(PyObject *message) {
 /* Appends the next message of an iterator to a list. It is copied before the one after it is asked
  * for, which may be written over it. Adds its length, and returns 1, or 0 at the end and with an
  * exception. */
-static int keep_next(PyObject *iterator, PyObject *list, Py_ssize_t *length) {
-    PyObject *message = PyIter_Next(iterator), *held = message ? kept(message) : NULL;
+static int append_next_copy(PyObject *iterator, PyObject *list, Py_ssize_t *length) {
+    PyObject *message = PyIter_Next(iterator), *held = message ? immutable_bytes_of(message) : NULL;
     const int is_kept = held && !PyList_Append(list, held);
     if (held) *length += PyBytes_Size(held);
     Py_XDECREF(message);
@@ -128,12 +128,12 @@ static PyObject *digests_of(const messages *m, const given *g, const family *f) 
 
 /* The next messages of an iterator as a list, which is empty at its end. They are whole groups of
  * those that are hashed in parallel. NULL with an exception. */
-static PyObject *next_few(PyObject *iterator) {
+static PyObject *next_batch_of_messages(PyObject *iterator) {
     enum { GROUP = 8, FEW = 512, SHORT = 1 << 18, LONG = 1 << 26 };
     PyObject *list = PyList_New(0);
     Py_ssize_t count = 0, length = 0;
     while (list && length < LONG && (count % GROUP || (count < FEW && length < SHORT)) &&
-           keep_next(iterator, list, &length))
+           append_next_copy(iterator, list, &length))
         count++;
     if (PyErr_Occurred()) Py_CLEAR(list);
     return list;
@@ -142,13 +142,13 @@ static PyObject *next_few(PyObject *iterator) {
 static PyObject *digests_of_tuple(PyObject *tuple, const given *g, const family *f) {
     PyObject *list = NULL;
     messages held;
-    if (!hold_tuple(&held, tuple)) list = digests_of(&held, g, f);
-    let_go(&held);
+    if (!get_buffers_of_tuple(&held, tuple)) list = digests_of(&held, g, f);
+    release_messages(&held);
     return list;
 }
 
 /* The bytes are those in this room from now on. */
-static void move_to(uint8_t *room, Py_buffer *text) {
+static void copy_text_to(uint8_t *room, Py_buffer *text) {
     if (text->len) memcpy(room, text->buf, (size_t)text->len);
     text->buf = room;
 }
@@ -160,11 +160,11 @@ static PyObject *digests_of_iterator(PyObject *iterator, const given *g, const f
     given own = *g;
     PyObject *all = PyList_New(0), *few, *tuple, *digests;
     Py_ssize_t count = all ? 1 : 0;
-    move_to(key, &own.key);
-    move_to(salt, &own.salt);
-    move_to(person, &own.person);
+    copy_text_to(key, &own.key);
+    copy_text_to(salt, &own.salt);
+    copy_text_to(person, &own.person);
     while (count) {
-        few = next_few(iterator);
+        few = next_batch_of_messages(iterator);
         tuple = few ? PyList_AsTuple(few) : NULL;
         digests = tuple ? digests_of_tuple(tuple, &own, f) : NULL;
         count = digests ? PyList_Size(digests) : 0;
@@ -181,9 +181,9 @@ static PyObject *digests_of_iterator(PyObject *iterator, const given *g, const f
 }
 
 static PyObject *digests_of_messages(PyObject *data, const given *g, const family *f) {
-    const int is_whole = is_there(data);
+    const int is_whole = is_list_tuple_or_rows(data);
     PyObject *held, *list = NULL;
-    if (check_several(data, "messages", "bytes")) return NULL;
+    if (check_is_list_of_several(data, "messages", "bytes")) return NULL;
     held = is_whole ? PySequence_Tuple(data) : PyObject_GetIter(data);
     if (held) list = is_whole ? digests_of_tuple(held, g, f) : digests_of_iterator(held, g, f);
     Py_XDECREF(held);
@@ -197,22 +197,22 @@ static PyObject *many(PyObject *args, PyObject *words, const family *f, const ch
     if (!PyArg_ParseTupleAndKeywords(args, words, arguments, names, &g.data, to_size, &g.size,
                                      &g.key, &g.salt, &g.person))
         return NULL;
-    if (!check(g.size, 1, f->out, "digest_size", " bytes") &&
-        !check_text(&g.salt, f->salt, "salt") && !check_text(&g.person, f->person, "person") &&
-        !check_text(&g.key, f->key, "key"))
+    if (!check_size_in_range(g.size, 1, f->out, "digest_size", " bytes") &&
+        !check_text_length(&g.salt, f->salt, "salt") && !check_text_length(&g.person, f->person, "person") &&
+        !check_text_length(&g.key, f->key, "key"))
         list = digests_of_messages(g.data, &g, f);
-    release(&g.key);
-    release(&g.salt);
-    release(&g.person);
+    release_buffer(&g.key);
+    release_buffer(&g.salt);
+    release_buffer(&g.person);
     return list;
 }
 
-static PyObject *many_b(PyObject *module, PyObject *args, PyObject *words) {
+static PyObject *hash_many_blake2b(PyObject *module, PyObject *args, PyObject *words) {
     (void)module;
     return many(args, words, &blake2b, "O|$O&y*y*y*:blake2b_many");
 }
 
-static PyObject *many_s(PyObject *module, PyObject *args, PyObject *words) {
+static PyObject *hash_many_blake2s(PyObject *module, PyObject *args, PyObject *words) {
     (void)module;
     return many(args, words, &blake2s, "O|$O&y*y*y*:blake2s_many");
 }
@@ -220,7 +220,7 @@ static PyObject *many_s(PyObject *module, PyObject *args, PyObject *words) {
 /* ---- Several hash objects */
 
 /* For qsort: which address is less. */
-static int by_address(const void *one, const void *other) {
+static int compare_addresses(const void *one, const void *other) {
     const uintptr_t a = (uintptr_t)*(hash *const *)one, b = (uintptr_t)*(hash *const *)other;
     return (a > b) - (a < b);
 }
@@ -231,18 +231,18 @@ static state *state_at(PyObject *tuple, size_t place) {
 }
 
 /* Whether this is a hash object that several of `type` can be updated with. */
-static int is_one_of(PyTypeObject *type, PyObject *object) {
+static int is_hash_of_type(PyTypeObject *type, PyObject *object) {
     return Py_TYPE(object) == type && hash_of(object) && hash_of(object)->f->update_many;
 }
 
 /* Writes the objects of a tuple in the order of their addresses, in which their locks are taken: so
  * no two calls wait for each other. Each has a lock from now on, since other threads run while a
  * call waits for one. 0, or -1 with an exception. */
-static int sort_hashes(PyObject *tuple, hash **sorted) {
+static int sort_hashes_by_address(PyObject *tuple, hash **sorted) {
     const Py_ssize_t count = PyTuple_Size(tuple);
     for (Py_ssize_t i = 0; i < count; i++) {
         sorted[i] = (hash *)PyTuple_GetItem(tuple, i);
-        if (!is_one_of(Py_TYPE(PyTuple_GetItem(tuple, 0)), (PyObject *)sorted[i])) {
+        if (!is_hash_of_type(Py_TYPE(PyTuple_GetItem(tuple, 0)), (PyObject *)sorted[i])) {
             PyErr_SetString(PyExc_TypeError, "hashes must be objects of one class: blake2b, "
                                              "blake2b_mac, blake2s or blake2s_mac");
             return -1;
@@ -252,7 +252,7 @@ static int sort_hashes(PyObject *tuple, hash **sorted) {
             return -1;
         }
     }
-    qsort(sorted, (size_t)count, sizeof *sorted, by_address);
+    qsort(sorted, (size_t)count, sizeof *sorted, compare_addresses);
     for (Py_ssize_t i = 1; i < count; i++) {
         if (sorted[i - 1] == sorted[i]) {
             PyErr_SetString(PyExc_ValueError, "one of the hashes is there twice");
@@ -263,10 +263,10 @@ static int sort_hashes(PyObject *tuple, hash **sorted) {
 }
 
 /* The pieces that an iterable yields, no more than this many, as a list. NULL with an exception. */
-static PyObject *first_pieces(PyObject *data, Py_ssize_t most) {
+static PyObject *list_of_first_pieces(PyObject *data, Py_ssize_t most) {
     PyObject *iterator = PyObject_GetIter(data), *list = iterator ? PyList_New(0) : NULL;
     Py_ssize_t length = 0;
-    while (list && PyList_Size(list) < most && keep_next(iterator, list, &length)) continue;
+    while (list && PyList_Size(list) < most && append_next_copy(iterator, list, &length)) continue;
     if (PyErr_Occurred()) Py_CLEAR(list);
     Py_XDECREF(iterator);
     return list;
@@ -274,7 +274,7 @@ static PyObject *first_pieces(PyObject *data, Py_ssize_t most) {
 
 /* A tuple of the pieces, one for each of the hashes. NULL with an exception. */
 static PyObject *tuple_of_pieces(PyObject *data, Py_ssize_t count) {
-    PyObject *held = is_there(data) ? Py_NewRef(data) : first_pieces(data, count + 1);
+    PyObject *held = is_list_tuple_or_rows(data) ? Py_NewRef(data) : list_of_first_pieces(data, count + 1);
     PyObject *tuple = held ? PySequence_Tuple(held) : NULL;
     const Py_ssize_t found = tuple ? PyTuple_Size(tuple) : count;
     if (found != count) {
@@ -287,7 +287,7 @@ static PyObject *tuple_of_pieces(PyObject *data, Py_ssize_t count) {
 }
 
 /* Whether the pieces are so many bytes together that they are absorbed without the GIL. */
-static int are_long(const messages *pieces) {
+static int are_pieces_long(const messages *pieces) {
     size_t length = 0;
     for (Py_ssize_t i = 0; i < pieces->count && length < LET_OTHERS_RUN_AT; i++)
         length += pieces->texts[i].length;
@@ -301,7 +301,7 @@ static int absorb_pieces(PyObject *tuple, const family *f, uint8_t *copies,
     const size_t size = f->state, count = (size_t)pieces->count;
     int status;
     for (size_t i = 0; i < count; i++) memcpy(copies + i * size, state_at(tuple, i), size);
-    if (are_long(pieces)) {
+    if (are_pieces_long(pieces)) {
         Py_BEGIN_ALLOW_THREADS
         status = f->update_many(copies, pieces);
         Py_END_ALLOW_THREADS
@@ -314,7 +314,7 @@ static int absorb_pieces(PyObject *tuple, const family *f, uint8_t *copies,
 
 /* The same with the locks. No code of Python runs while they are held. 0, or -1 with an
  * exception. */
-static int absorb_locked(PyObject *tuple, hash **sorted, const messages *pieces) {
+static int lock_and_absorb_pieces(PyObject *tuple, hash **sorted, const messages *pieces) {
     const family *f = pieces->count ? sorted[0]->f : &blake2b;
     const size_t length = (size_t)pieces->count * f->state;
     uint8_t *copies = PyMem_Malloc(length);
@@ -323,9 +323,9 @@ static int absorb_locked(PyObject *tuple, hash **sorted, const messages *pieces)
         PyErr_NoMemory();
         return -1;
     }
-    for (Py_ssize_t i = 0; i < pieces->count; i++) take_lock(sorted[i]->lock);
+    for (Py_ssize_t i = 0; i < pieces->count; i++) acquire_lock(sorted[i]->lock);
     status = absorb_pieces(tuple, f, copies, pieces);
-    for (Py_ssize_t i = 0; i < pieces->count; i++) leave_lock(sorted[i]->lock);
+    for (Py_ssize_t i = 0; i < pieces->count; i++) release_lock(sorted[i]->lock);
     vulfsjor_wipe(copies, length);
     PyMem_Free(copies);
     if (status) PyErr_SetString(PyExc_OverflowError, "2^64 bytes or more");
@@ -333,16 +333,16 @@ static int absorb_locked(PyObject *tuple, hash **sorted, const messages *pieces)
 }
 
 /* Updates the hash objects of a tuple. 0, or -1 with an exception. */
-static int update_each(PyObject *tuple, PyObject *data) {
+static int update_hashes(PyObject *tuple, PyObject *data) {
     hash **sorted = PyMem_Malloc((size_t)PyTuple_Size(tuple) * sizeof *sorted);
     PyObject *pieces = NULL;
     messages held;
     int status = -1;
     if (!sorted) PyErr_NoMemory();
-    else if (!sort_hashes(tuple, sorted)) pieces = tuple_of_pieces(data, PyTuple_Size(tuple));
+    else if (!sort_hashes_by_address(tuple, sorted)) pieces = tuple_of_pieces(data, PyTuple_Size(tuple));
     if (pieces) {
-        if (!hold_tuple(&held, pieces)) status = absorb_locked(tuple, sorted, &held);
-        let_go(&held);
+        if (!get_buffers_of_tuple(&held, pieces)) status = lock_and_absorb_pieces(tuple, sorted, &held);
+        release_messages(&held);
         Py_DECREF(pieces);
     }
     PyMem_Free(sorted);
@@ -354,10 +354,10 @@ static PyObject *update_many(PyObject *module, PyObject *args) {
     int status;
     (void)module;
     if (!PyArg_ParseTuple(args, "OO:update_many", &hashes, &pieces) ||
-        check_several(hashes, "hashes", "hash objects") ||
-        check_several(pieces, "pieces", "bytes") || !(tuple = PySequence_Tuple(hashes)))
+        check_is_list_of_several(hashes, "hashes", "hash objects") ||
+        check_is_list_of_several(pieces, "pieces", "bytes") || !(tuple = PySequence_Tuple(hashes)))
         return NULL;
-    status = update_each(tuple, pieces);
+    status = update_hashes(tuple, pieces);
     Py_DECREF(tuple);
     if (status) return NULL;
     Py_RETURN_NONE;
@@ -372,8 +372,8 @@ static PyObject *update_many(PyObject *module, PyObject *args) {
        "on a processor with AVX2. What an iterator yields is copied when it comes, unless it is\n" \
        "bytes: it may be one buffer that is filled again and again."
 PyMethodDef several_functions[] = {
-    {"blake2b_many", WITH_WORDS(many_b), MANY(blake2b, 64, "four")},
-    {"blake2s_many", WITH_WORDS(many_s), MANY(blake2s, 32, "eight")},
+    {"blake2b_many", WITH_WORDS(hash_many_blake2b), MANY(blake2b, 64, "four")},
+    {"blake2s_many", WITH_WORDS(hash_many_blake2s), MANY(blake2s, 32, "eight")},
     {"update_many", update_many, METH_VARARGS,
      "update_many(hashes, pieces, /)\n--\n\n"
      "Absorb each piece into the hash object at its place, as its update would.\n\n"

@@ -24,20 +24,20 @@ static int to_threads(PyObject *object, void *threads) {
 }
 
 /* Checks the parameters, in the order of hashlib, and fills in the length of the leaves. */
-static int check_given(given *g) {
+static int check_tree_parameters(given *g) {
     uint64_t leaf_size;
-    if (range_of(g->leaf, 1, UINT32_MAX, "leaf_size", &leaf_size) ||
-        check(g->size, 1, VULFSJOR_BLAKE2B_OUTBYTES, "digest_size", " bytes") ||
-        check_text(&g->salt, VULFSJOR_BLAKE2B_SALTBYTES, "salt") ||
-        check_text(&g->person, VULFSJOR_BLAKE2B_PERSONALBYTES, "person"))
+    if (to_number_in_range(g->leaf, 1, UINT32_MAX, "leaf_size", &leaf_size) ||
+        check_size_in_range(g->size, 1, VULFSJOR_BLAKE2B_OUTBYTES, "digest_size", " bytes") ||
+        check_text_length(&g->salt, VULFSJOR_BLAKE2B_SALTBYTES, "salt") ||
+        check_text_length(&g->person, VULFSJOR_BLAKE2B_PERSONALBYTES, "person"))
         return -1;
     g->leaf_length = (uint32_t)leaf_size;
     return 0;
 }
 
 /* The number of a leaf. A message has less than 2^58 bytes. */
-static int place_of(PyObject *given, uint64_t leaf_length, const char *name, uint64_t *place) {
-    return range_of(given, 0, (((uint64_t)1 << 58) - 1) / leaf_length, name, place);
+static int to_leaf_number(PyObject *given, uint64_t leaf_length, const char *name, uint64_t *place) {
+    return to_number_in_range(given, 0, (((uint64_t)1 << 58) - 1) / leaf_length, name, place);
 }
 
 /* Converts a flag (O&). An object of another kind, such as where a message ends, would be true too. */
@@ -51,17 +51,17 @@ static int to_flag(PyObject *object, void *flag) {
 }
 
 /* What is raised if leaves end too late. */
-static PyObject *too_far(void) {
-    return refused(PyExc_ValueError, "the data ends at 2^58 bytes or more of the message");
+static PyObject *raise_leaves_end_too_late(void) {
+    return raise_exception(PyExc_ValueError, "the data ends at 2^58 bytes or more of the message");
 }
 
 static void release_given(given *g) {
-    release(&g->salt);
-    release(&g->person);
+    release_buffer(&g->salt);
+    release_buffer(&g->person);
 }
 
 /* Initializes a state with what was checked. 0, or -1 with an exception. */
-static int initialize(vulfsjor_tree_state *tree, const given *g) {
+static int initialize_tree(vulfsjor_tree_state *tree, const given *g) {
     if (!vulfsjor_tree_init(tree, (size_t)g->size, TEXT(&g->salt), TEXT(&g->person), g->leaf_length))
         return 0;
     PyErr_SetString(PyExc_SystemError, "the library refuses what was checked");
@@ -71,7 +71,7 @@ static int initialize(vulfsjor_tree_state *tree, const given *g) {
 /* ---- In one call */
 
 /* Writes the root of the bytes, by this thread. 0, or -1 with an exception. */
-static int root_by_one(const given *g, uint8_t *out, const Py_buffer *view) {
+static int write_root_by_one_thread(const given *g, uint8_t *out, const Py_buffer *view) {
     int status;
     Py_BEGIN_ALLOW_THREADS
     status = vulfsjor_tree_root(out, (size_t)g->size, TEXT(view), TEXT(&g->salt), TEXT(&g->person),
@@ -82,9 +82,9 @@ static int root_by_one(const given *g, uint8_t *out, const Py_buffer *view) {
 }
 
 /* The same by several threads. */
-static int root_by_several(const given *g, uint8_t *out, const Py_buffer *view) {
+static int write_root_by_several_threads(const given *g, uint8_t *out, const Py_buffer *view) {
     vulfsjor_tree_state tree;
-    if (initialize(&tree, g)) return -1;
+    if (initialize_tree(&tree, g)) return -1;
     return root_by_threads(&tree, out, view, g->threads);
 }
 
@@ -93,7 +93,7 @@ static PyObject *root_of(const given *g) {
     Py_buffer view;
     int status;
     if (view_of(g->data, &view)) return NULL;
-    status = g->threads == 1 ? root_by_one(g, out, &view) : root_by_several(g, out, &view);
+    status = g->threads == 1 ? write_root_by_one_thread(g, out, &view) : write_root_by_several_threads(g, out, &view);
     PyBuffer_Release(&view);
     return status ? NULL : PyBytes_FromStringAndSize((const char *)out, g->size);
 }
@@ -106,7 +106,7 @@ static PyObject *tree_root(PyObject *module, PyObject *args, PyObject *words) {
     if (!PyArg_ParseTupleAndKeywords(args, words, "OO|$O&y*y*O&:tree_root", names, &g.data, &g.leaf,
                                      to_size, &g.size, &g.salt, &g.person, to_threads, &g.threads))
         return NULL;
-    if (!check_given(&g)) root = root_of(&g);
+    if (!check_tree_parameters(&g)) root = root_of(&g);
     release_given(&g);
     return root;
 }
@@ -114,16 +114,16 @@ static PyObject *tree_root(PyObject *module, PyObject *args, PyObject *words) {
 /* ---- In parts */
 
 /* The digests of a range of leaves, or NULL with an exception. */
-static PyObject *digests_of(const given *g, const Py_buffer *view, uint64_t first, int ends) {
+static PyObject *digests_of_leaves(const given *g, const Py_buffer *view, uint64_t first, int ends) {
     uint64_t count = vulfsjor_tree_leaf_count((uint64_t)view->len, g->leaf_length);
     PyObject *digests;
     uint8_t *out;
     int status;
     if (!view->len && (first || !ends))
-        return refused(PyExc_ValueError,
-                       "data must not be empty, unless it is all of an empty message");
+        return raise_exception(PyExc_ValueError,
+                               "data must not be empty, unless it is all of an empty message");
     if (!ends && (uint64_t)view->len % g->leaf_length)
-        return refused(PyExc_ValueError, "data must be whole leaves, unless it ends the message");
+        return raise_exception(PyExc_ValueError, "data must be whole leaves, unless it ends the message");
     if (count > PY_SSIZE_T_MAX / 64) return PyErr_NoMemory();
     digests = PyBytes_FromStringAndSize(NULL, (Py_ssize_t)count * 64);
     if (!digests) return NULL;
@@ -134,7 +134,7 @@ static PyObject *digests_of(const given *g, const Py_buffer *view, uint64_t firs
     Py_END_ALLOW_THREADS
     if (!status) return digests;
     Py_DECREF(digests);
-    return too_far();
+    return raise_leaves_end_too_late();
 }
 
 static PyObject *tree_leaves(PyObject *module, PyObject *args, PyObject *words) {
@@ -151,16 +151,16 @@ static PyObject *tree_leaves(PyObject *module, PyObject *args, PyObject *words) 
     if (!first || ends < 0)
         PyErr_SetString(PyExc_TypeError,
                         "tree_leaves() requires the keyword arguments first and ends");
-    else if (!check_given(&g) &&
-             !place_of(first, g.leaf_length, "first", &first_leaf) && !view_of(g.data, &view)) {
-        digests = digests_of(&g, &view, first_leaf, ends);
+    else if (!check_tree_parameters(&g) &&
+             !to_leaf_number(first, g.leaf_length, "first", &first_leaf) && !view_of(g.data, &view)) {
+        digests = digests_of_leaves(&g, &view, first_leaf, ends);
         PyBuffer_Release(&view);
     }
     release_given(&g);
     return digests;
 }
 
-static PyObject *root_over(const given *g) {
+static PyObject *root_of_leaf_digests(const given *g) {
     uint8_t out[64];
     Py_buffer view;
     int status;
@@ -172,8 +172,8 @@ static PyObject *root_over(const given *g) {
     Py_END_ALLOW_THREADS
     PyBuffer_Release(&view);
     if (status)
-        return refused(PyExc_ValueError,
-                       "digests must have 64 bytes for each leaf, and at least one leaf");
+        return raise_exception(PyExc_ValueError,
+                               "digests must have 64 bytes for each leaf, and at least one leaf");
     return PyBytes_FromStringAndSize((const char *)out, g->size);
 }
 
@@ -185,7 +185,7 @@ static PyObject *tree_root_of_leaves(PyObject *module, PyObject *args, PyObject 
     if (!PyArg_ParseTupleAndKeywords(args, words, "OO|$O&y*y*:tree_root_of_leaves", names, &g.data,
                                      &g.leaf, to_size, &g.size, &g.salt, &g.person))
         return NULL;
-    if (!check_given(&g)) root = root_over(&g);
+    if (!check_tree_parameters(&g)) root = root_of_leaf_digests(&g);
     release_given(&g);
     return root;
 }
@@ -197,7 +197,7 @@ static PyObject *tree_leaf_count(PyObject *module, PyObject *args, PyObject *wor
     (void)module;
     if (!PyArg_ParseTupleAndKeywords(args, words, "OO:tree_leaf_count", names, &g.data, &g.leaf))
         return NULL;
-    if (range_of(g.data, 0, UINT64_MAX, "length", &length) || check_given(&g))
+    if (to_number_in_range(g.data, 0, UINT64_MAX, "length", &length) || check_tree_parameters(&g))
         return NULL;
     return PyLong_FromUnsignedLongLong(vulfsjor_tree_leaf_count(length, g.leaf_length));
 }
@@ -254,20 +254,20 @@ static tree *new_tree(PyTypeObject *type, uint32_t leaf_size, int digest_size) {
     return self;
 }
 
-static PyObject *make(PyTypeObject *type, PyObject *args, PyObject *words) {
+static PyObject *make_tree_hasher(PyTypeObject *type, PyObject *args, PyObject *words) {
     static char *names[] = {"leaf_size", "digest_size", "salt", "person", NULL};
     given g = {.size = VULFSJOR_BLAKE2B_OUTBYTES};
     tree *self = NULL;
     if (!PyArg_ParseTupleAndKeywords(args, words, "O|$O&y*y*:TreeHasher", names, &g.leaf, to_size,
                                      &g.size, &g.salt, &g.person))
         return NULL;
-    if (!check_given(&g)) self = new_tree(type, g.leaf_length, g.size);
-    if (self && initialize(&self->run, &g)) Py_CLEAR(self);
+    if (!check_tree_parameters(&g)) self = new_tree(type, g.leaf_length, g.size);
+    if (self && initialize_tree(&self->run, &g)) Py_CLEAR(self);
     release_given(&g);
     return (PyObject *)self;
 }
 
-static void end_of_life(PyObject *object) {
+static void wipe_and_dealloc(PyObject *object) {
     tree *self = (tree *)object;
     PyTypeObject *type = Py_TYPE(object);
     freefunc give_back = (freefunc)PyType_GetSlot(type, Py_tp_free);
@@ -278,12 +278,12 @@ static void end_of_life(PyObject *object) {
 }
 
 /* Absorbs leaves, given by their digests, and then the data. 0, or what the library returns. */
-static int absorb(tree *self, const Py_buffer *digests, const Py_buffer *view) {
+static int absorb_leaves_and_data(tree *self, const Py_buffer *digests, const Py_buffer *view) {
     int status;
     if (digests->len + view->len < LET_OTHERS_RUN_AT) {
-        take_lock(self->lock);
+        acquire_lock(self->lock);
         status = vulfsjor_tree_update_leaves(&self->run, TEXT(digests), TEXT(view));
-        leave_lock(self->lock);
+        release_lock(self->lock);
     } else {
         Py_BEGIN_ALLOW_THREADS
         PyThread_acquire_lock(self->lock, 1);
@@ -296,9 +296,9 @@ static int absorb(tree *self, const Py_buffer *digests, const Py_buffer *view) {
 
 /* Writes the state as it is now. */
 static void copy_state(tree *self, vulfsjor_tree_state *copied) {
-    take_lock(self->lock);
+    acquire_lock(self->lock);
     *copied = self->run;
-    leave_lock(self->lock);
+    release_lock(self->lock);
 }
 
 /* Absorbs the data by threads, which work on a copy: an interrupted call changes nothing. 0, or -1 with an
@@ -310,20 +310,20 @@ static int absorb_by_threads(tree *self, const Py_buffer *view, unsigned threads
     copy_state(self, &copied);
     count = vulfsjor_tree_count(&copied);
     status = update_tree_by_threads(&copied, view, threads);
-    take_lock(self->lock);
+    acquire_lock(self->lock);
     if (!status && vulfsjor_tree_count(&self->run) != count) {
         PyErr_SetString(PyExc_RuntimeError, "another thread has updated the hasher meanwhile");
         status = -1;
     }
     if (!status) self->run = copied;
-    leave_lock(self->lock);
+    release_lock(self->lock);
     vulfsjor_tree_wipe(&copied);
     return status;
 }
 
 static int absorb_data(tree *self, const Py_buffer *view) {
     const Py_buffer none = {0};
-    int status = absorb(self, &none, view);
+    int status = absorb_leaves_and_data(self, &none, view);
     if (status) PyErr_SetString(PyExc_OverflowError, "2^58 bytes or more");
     return status;
 }
@@ -363,27 +363,27 @@ static PyObject *root_of_file(PyObject *object, PyObject *args) {
     return PyBytes_FromStringAndSize((const char *)out, ((tree *)object)->digest_size);
 }
 
-static int is_at_boundary(const vulfsjor_tree_state *run) {
+static int is_at_leaf_boundary(const vulfsjor_tree_state *run) {
     return vulfsjor_tree_count(run) % vulfsjor_tree_leaf_length(run) == 0;
 }
 
-static PyObject *not_at_boundary(void) {
-    return refused(PyExc_ValueError, "the hasher is not at a leaf boundary");
+static PyObject *raise_not_at_boundary(void) {
+    return raise_exception(PyExc_ValueError, "the hasher is not at a leaf boundary");
 }
 
 /* Why the leaves are refused that were given by their digests. */
-static PyObject *refuse_leaves(tree *self, const Py_buffer *digests, const Py_buffer *view) {
+static PyObject *raise_leaves_refused(tree *self, const Py_buffer *digests, const Py_buffer *view) {
     vulfsjor_tree_state copied;
     int at_boundary;
     if (digests->len % 64)
-        return refused(PyExc_ValueError, "digests must have 64 bytes for each leaf");
+        return raise_exception(PyExc_ValueError, "digests must have 64 bytes for each leaf");
     if (digests->len && !view->len)
-        return refused(PyExc_ValueError, "data must follow the digests, at least one byte of it");
+        return raise_exception(PyExc_ValueError, "data must follow the digests, at least one byte of it");
     copy_state(self, &copied);
-    at_boundary = is_at_boundary(&copied);
+    at_boundary = is_at_leaf_boundary(&copied);
     vulfsjor_tree_wipe(&copied);
-    return at_boundary || !digests->len ? refused(PyExc_OverflowError, "2^58 bytes or more")
-                                        : not_at_boundary();
+    return at_boundary || !digests->len ? raise_exception(PyExc_OverflowError, "2^58 bytes or more")
+                                        : raise_not_at_boundary();
 }
 
 static PyObject *update_leaves(PyObject *object, PyObject *args) {
@@ -393,7 +393,8 @@ static PyObject *update_leaves(PyObject *object, PyObject *args) {
         view_of(given_digests, &digests))
         return NULL;
     if (!view_of(data, &view)) {
-        if (absorb((tree *)object, &digests, &view)) refuse_leaves((tree *)object, &digests, &view);
+        if (absorb_leaves_and_data((tree *)object, &digests, &view))
+            raise_leaves_refused((tree *)object, &digests, &view);
         else done = Py_NewRef(Py_None);
         PyBuffer_Release(&view);
     }
@@ -402,15 +403,15 @@ static PyObject *update_leaves(PyObject *object, PyObject *args) {
 }
 
 /* The digests of leaves that follow those of this state, which is a copy. */
-static PyObject *hash_next(const vulfsjor_tree_state *run, uint64_t skip, const Py_buffer *view) {
+static PyObject *hash_leaves_after(const vulfsjor_tree_state *run, uint64_t skip, const Py_buffer *view) {
     uint64_t leaf_length = vulfsjor_tree_leaf_length(run);
     uint64_t count = (uint64_t)view->len / leaf_length;
     PyObject *digests;
     uint8_t *out;
     int status;
     if (!view->len || (uint64_t)view->len % leaf_length)
-        return refused(PyExc_ValueError, "data must be whole leaves, at least one");
-    if (!is_at_boundary(run)) return not_at_boundary();
+        return raise_exception(PyExc_ValueError, "data must be whole leaves, at least one");
+    if (!is_at_leaf_boundary(run)) return raise_not_at_boundary();
     if (count > PY_SSIZE_T_MAX / 64) return PyErr_NoMemory();
     digests = PyBytes_FromStringAndSize(NULL, (Py_ssize_t)count * 64);
     if (!digests) return NULL;
@@ -420,7 +421,7 @@ static PyObject *hash_next(const vulfsjor_tree_state *run, uint64_t skip, const 
     Py_END_ALLOW_THREADS
     if (!status) return digests;
     Py_DECREF(digests);
-    return too_far();
+    return raise_leaves_end_too_late();
 }
 
 static PyObject *leaves_ahead(PyObject *object, PyObject *args, PyObject *words) {
@@ -430,11 +431,11 @@ static PyObject *leaves_ahead(PyObject *object, PyObject *args, PyObject *words)
     Py_buffer view;
     uint64_t skipped = 0;
     if (!PyArg_ParseTupleAndKeywords(args, words, "O|O:leaves_ahead", names, &data, &skip) ||
-        (skip && place_of(skip, ((tree *)object)->leaf_size, "skip", &skipped)) ||
+        (skip && to_leaf_number(skip, ((tree *)object)->leaf_size, "skip", &skipped)) ||
         view_of(data, &view))
         return NULL;
     copy_state((tree *)object, &copied);
-    digests = hash_next(&copied, skipped, &view);
+    digests = hash_leaves_after(&copied, skipped, &view);
     vulfsjor_tree_wipe(&copied);
     PyBuffer_Release(&view);
     return digests;
@@ -468,7 +469,7 @@ static PyObject *hexdigest(PyObject *self, PyObject *none) {
     uint8_t out[64];
     int size = digest_of((tree *)self, out);
     (void)none;
-    return size < 0 ? NULL : digits_of(out, size);
+    return size < 0 ? NULL : hex_string_of(out, size);
 }
 
 static PyObject *digest_size(PyObject *self, void *none) {
@@ -485,9 +486,9 @@ static PyObject *count(PyObject *object, void *none) {
     tree *self = (tree *)object;
     uint64_t bytes;
     (void)none;
-    take_lock(self->lock);
+    acquire_lock(self->lock);
     bytes = vulfsjor_tree_count(&self->run);
-    leave_lock(self->lock);
+    release_lock(self->lock);
     return PyLong_FromUnsignedLongLong(bytes);
 }
 
@@ -528,8 +529,8 @@ static PyGetSetDef fields[] = {
     {NULL, NULL, NULL, NULL, NULL}};
 
 static PyType_Slot slots[] = {
-    {Py_tp_new, make},
-    {Py_tp_dealloc, end_of_life},
+    {Py_tp_new, make_tree_hasher},
+    {Py_tp_dealloc, wipe_and_dealloc},
     {Py_tp_methods, methods},
     {Py_tp_getset, fields},
     {Py_tp_doc, "TreeHasher(leaf_size, *, digest_size=64, salt=b'', person=b'')\n--\n\n"

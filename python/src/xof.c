@@ -62,11 +62,11 @@ static output *new_output(PyTypeObject *type, const kind *k) {
 }
 
 /* Absorbs the bytes. 0, or -1 with an exception. */
-static int absorb(output *self, PyObject *data) {
+static int absorb_data(output *self, PyObject *data) {
     Py_buffer view;
     int status;
     if (view_of(data, &view)) return -1;
-    take_lock(self->lock);
+    acquire_lock(self->lock);
     if (view.len >= LET_OTHERS_RUN_AT) {
         Py_BEGIN_ALLOW_THREADS
         status = self->k->update(&self->run, view.buf, (size_t)view.len);
@@ -74,19 +74,19 @@ static int absorb(output *self, PyObject *data) {
     } else {
         status = self->k->update(&self->run, view.buf, (size_t)view.len);
     }
-    leave_lock(self->lock);
+    release_lock(self->lock);
     PyBuffer_Release(&view);
     if (status) PyErr_SetString(PyExc_OverflowError, "2^64 bytes or more");
     return status;
 }
 
 /* A length from 1 to `most`, or `otherwise` for None. 0, or -1 with an exception. */
-static int length_of(PyObject *given, uint64_t otherwise, uint64_t most, uint64_t *length) {
+static int to_output_length(PyObject *given, uint64_t otherwise, uint64_t most, uint64_t *length) {
     *length = otherwise;
-    return given && given != Py_None ? range_of(given, 1, most, "length", length) : 0;
+    return given && given != Py_None ? to_number_in_range(given, 1, most, "length", length) : 0;
 }
 
-static PyObject *make(PyTypeObject *type, PyObject *args, PyObject *words, const kind *k) {
+static PyObject *make_output(PyTypeObject *type, PyObject *args, PyObject *words, const kind *k) {
     static char *names[] = {"", "length", "key", "salt", "person", "usedforsecurity", NULL};
     PyObject *data = NULL, *given = NULL;
     Py_buffer key = {0}, salt = {0}, person = {0};
@@ -96,22 +96,22 @@ static PyObject *make(PyTypeObject *type, PyObject *args, PyObject *words, const
     if (!PyArg_ParseTupleAndKeywords(args, words, "|O$Oy*y*y*p", names, &data, &given, &key, &salt,
                                      &person, &secure))
         return NULL;
-    if (!length_of(given, k->unknown, k->unknown - 1, &length) &&
-        !check_text(&salt, k->salt, "salt") && !check_text(&person, k->salt, "person") &&
-        !check_text(&key, k->key, "key"))
+    if (!to_output_length(given, k->unknown, k->unknown - 1, &length) &&
+        !check_text_length(&salt, k->salt, "salt") && !check_text_length(&person, k->salt, "person") &&
+        !check_text_length(&key, k->key, "key"))
         self = new_output(type, k);
     if (self && k->init(&self->run, length, &key, &salt, &person)) {
         PyErr_SetString(PyExc_SystemError, "the library refuses what was checked");
         Py_CLEAR(self);
     }
-    if (self && data && absorb(self, data)) Py_CLEAR(self);
-    release(&key);
-    release(&salt);
-    release(&person);
+    if (self && data && absorb_data(self, data)) Py_CLEAR(self);
+    release_buffer(&key);
+    release_buffer(&salt);
+    release_buffer(&person);
     return (PyObject *)self;
 }
 
-static void end_of_life(PyObject *object) {
+static void wipe_and_dealloc(PyObject *object) {
     output *self = (output *)object;
     PyTypeObject *type = Py_TYPE(object);
     self->k->wipe(&self->run);
@@ -121,15 +121,15 @@ static void end_of_life(PyObject *object) {
 }
 
 static PyObject *update(PyObject *self, PyObject *data) {
-    if (absorb((output *)self, data)) return NULL;
+    if (absorb_data((output *)self, data)) return NULL;
     Py_RETURN_NONE;
 }
 
 /* Copies the state as it is now. The caller must wipe the copy. */
 static void copy_state(output *self, state *copied) {
-    take_lock(self->lock);
+    acquire_lock(self->lock);
     memcpy(copied, &self->run, self->k->state);
-    leave_lock(self->lock);
+    release_lock(self->lock);
 }
 
 static PyObject *copy(PyObject *object, PyObject *none) {
@@ -151,7 +151,7 @@ static PyObject *squeeze(const kind *k, state *run, size_t length) {
     Py_END_ALLOW_THREADS
     if (!status) return out;
     Py_DECREF(out);
-    return refused(PyExc_SystemError, "the library refuses what was checked");
+    return raise_exception(PyExc_SystemError, "the library refuses what was checked");
 }
 
 /* The first bytes of the output, by a copy of the state. */
@@ -164,7 +164,7 @@ static PyObject *digest(PyObject *object, PyObject *given) {
     copy_state(self, &copied);
     left = k->left(&copied);
     if (left > PY_SSIZE_T_MAX) left = PY_SSIZE_T_MAX;
-    if (!range_of(given, 0, left, "length", &length)) out = squeeze(k, &copied, (size_t)length);
+    if (!to_number_in_range(given, 0, left, "length", &length)) out = squeeze(k, &copied, (size_t)length);
     k->wipe(&copied);
     return out;
 }
@@ -200,11 +200,11 @@ static PyGetSetDef fields[] = {{"name", name_of, NULL, "The name of the function
 
 #define TYPE(f, longest, key, text)                                                                \
     static PyObject *make_##f(PyTypeObject *type, PyObject *args, PyObject *words) {               \
-        return make(type, args, words, &f);                                                        \
+        return make_output(type, args, words, &f);                                                        \
     }                                                                                              \
     static PyType_Slot slots_##f[] = {                                                             \
         {Py_tp_new, make_##f},                                                                     \
-        {Py_tp_dealloc, end_of_life},                                                              \
+        {Py_tp_dealloc, wipe_and_dealloc},                                                              \
         {Py_tp_methods, methods},                                                                  \
         {Py_tp_getset, fields},                                                                    \
         {Py_tp_doc, #f "(data=b'', /, *, length=None, key=b'', salt=b'', person=b'',"              \
@@ -220,7 +220,7 @@ TYPE(blake2xb, "4294967294", "64", "16")
 TYPE(blake2xs, "65534", "32", "8")
 
 /* A key of this length. The GIL is released meanwhile. */
-static PyObject *derive(size_t length, const Py_buffer *key, const Py_buffer *context) {
+static PyObject *derive_key_of_length(size_t length, const Py_buffer *key, const Py_buffer *context) {
     PyObject *out = PyBytes_FromStringAndSize(NULL, (Py_ssize_t)length);
     char *bytes;
     int status;
@@ -231,7 +231,7 @@ static PyObject *derive(size_t length, const Py_buffer *key, const Py_buffer *co
     Py_END_ALLOW_THREADS
     if (!status) return out;
     Py_DECREF(out);
-    return refused(PyExc_OverflowError, "2^64 bytes or more");
+    return raise_exception(PyExc_OverflowError, "2^64 bytes or more");
 }
 
 static PyObject *derive_key(PyObject *module, PyObject *args, PyObject *words) {
@@ -242,10 +242,10 @@ static PyObject *derive_key(PyObject *module, PyObject *args, PyObject *words) {
     (void)module;
     if (!PyArg_ParseTupleAndKeywords(args, words, "y*y*O:derive_key", names, &key, &context, &given))
         return NULL;
-    if (!check_key(&key, blake2xb.key) && !range_of(given, 1, blake2xb.unknown - 1, "length", &length))
-        out = derive((size_t)length, &key, &context);
-    release(&key);
-    release(&context);
+    if (!check_key_length(&key, blake2xb.key) && !to_number_in_range(given, 1, blake2xb.unknown - 1, "length", &length))
+        out = derive_key_of_length((size_t)length, &key, &context);
+    release_buffer(&key);
+    release_buffer(&context);
     return out;
 }
 

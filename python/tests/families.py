@@ -17,7 +17,7 @@ ROOT = oracle.tree_root(DATA, 1 << 14)
 TEXTS = dict(salt=b"salt", person=b"a persona of 16b")
 
 
-def parallel(name):
+def parallel_hash_like_hashlib(name):
     """BLAKE2bp ("b") or BLAKE2sp ("s") with the interface of hashlib, which has neither, as far as
     the tests need it."""
     longest = oracle.SCALAR[name].digest
@@ -26,7 +26,7 @@ def parallel(name):
         if key or digest_size < longest:
             digest = oracle.parallel_digest(name, data, digest_size, key, **texts)
         else:
-            digest = oracle.parallel_by_hashlib(name, data, **texts)
+            digest = oracle.parallel_digest_by_hashlib(name, data, **texts)
         return types.SimpleNamespace(digest=lambda: digest)
 
     return make
@@ -35,20 +35,20 @@ def parallel(name):
 # The name, the class, what computes the digest, the function of several messages, the longest digest and key.
 PLAIN = (("blake2b", vulfsjor.blake2b, hashlib.blake2b, vulfsjor.blake2b_many, 64),
          ("blake2s", vulfsjor.blake2s, hashlib.blake2s, vulfsjor.blake2s_many, 32))
-FAMILIES = (*PLAIN, ("blake2bp", vulfsjor.blake2bp, parallel("b"), None, 64),
-            ("blake2sp", vulfsjor.blake2sp, parallel("s"), None, 32))
+FAMILIES = (*PLAIN, ("blake2bp", vulfsjor.blake2bp, parallel_hash_like_hashlib("b"), None, 64),
+            ("blake2sp", vulfsjor.blake2sp, parallel_hash_like_hashlib("s"), None, 32))
 # The name, the class, the longest key, and the longest output of known length.
 OUTPUTS = (("blake2xb", vulfsjor.blake2xb, 64, 2**32 - 2), ("blake2xs", vulfsjor.blake2xs, 32, 2**16 - 2))
 
 
-def other_threads():
+def count_hashing_threads():
     """The number of threads of this process that are neither Python's nor the one of `setUp`."""
     return len(os.listdir("/proc/self/task")) - threading.active_count() - 1
 
 
-def have_ended():
+def have_hashing_threads_ended():
     """Whether there are no other threads. The kernel lists one for a moment after it has ended."""
     end = time.monotonic() + 20
-    while other_threads() and time.monotonic() < end:
+    while count_hashing_threads() and time.monotonic() < end:
         time.sleep(0.001)
-    return not other_threads()
+    return not count_hashing_threads()

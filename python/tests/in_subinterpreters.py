@@ -50,7 +50,7 @@ else:
 """
 
 
-def run(each):
+def run_in_interpreter(each):
     """Runs the program in an interpreter. Returns why it failed, or None."""
     try:
         failed = interpreters.run_string(each, PROGRAM)
@@ -64,9 +64,9 @@ for _ in range(2):
     created = [interpreters.create() for _ in range(3)]
     if sys.version_info >= (3, 13):
         with concurrent.futures.ThreadPoolExecutor(3) as pool:
-            failures += filter(None, pool.map(run, created))
+            failures += filter(None, pool.map(run_in_interpreter, created))
     else:
-        failures += filter(None, map(run, created))
+        failures += filter(None, map(run_in_interpreter, created))
     for each in created:
         interpreters.destroy(each)
 assert vulfsjor.blake2b(DATA, key=b"key").digest() == WANTED[0]

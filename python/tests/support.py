@@ -33,7 +33,7 @@ HUGE = os.environ.get("VULFSJOR_TEST_HUGE") == "1"
 long = unittest.skipUnless(HUGE, "VULFSJOR_TEST_HUGE is not 1")
 
 
-def absent(*modules, tools=()):
+def why_absent(*modules, tools=()):
     """What is missing of these modules and programs, as a reason to skip a test, or ''."""
     found = [name for name in tools if not shutil.which(name)]
     for name in modules:
@@ -44,24 +44,24 @@ def absent(*modules, tools=()):
     return " and ".join(f"no {name}" for name in found)
 
 
-def needs_clone():
+def skip_unless_in_clone():
     """Skips the file of tests that calls this in a source distribution."""
     if not IS_CLONE:
         raise unittest.SkipTest("this is not a clone of the repository")
 
 
-def cannot_build():
+def why_cannot_build():
     """Why this interpreter can't build the package, or ''."""
     if sys.version_info < (3, 11):
         return "no Python 3.11"
     header = os.path.join(sysconfig.get_path("include"), "Python.h")
-    return absent(tools=["cc"]) or ("" if os.path.exists(header) else "no Python.h")
+    return why_absent(tools=["cc"]) or ("" if os.path.exists(header) else "no Python.h")
 
 
-def cannot_compile(compiler):
+def why_cannot_compile(compiler):
     """Why this compiler for another processor can't be used, or ''. Debian's only recommend its C
     library."""
-    if why := absent(tools=[compiler]):
+    if why := why_absent(tools=[compiler]):
         return why
     done = run(compiler, "-E", "-include", "stdlib.h", "-x", "c", os.devnull)
     return f"no C library for {compiler}" if done.returncode else ""
@@ -88,8 +88,8 @@ def build(folder, python=sys.executable, **environment):
 def package():
     """The folder with the package."""
     if "VULFSJOR_PACKAGE" not in os.environ:
-        if cannot_build():
-            raise unittest.SkipTest(cannot_build())
+        if why_cannot_build():
+            raise unittest.SkipTest(why_cannot_build())
         folder = tempfile.mkdtemp()
         atexit.register(shutil.rmtree, folder)
         build(folder)
@@ -97,13 +97,13 @@ def package():
     return os.path.abspath(os.environ["VULFSJOR_PACKAGE"])
 
 
-def unread(length):
+def unreadable_buffer(length):
     """A buffer that is longer than the memory, for calls that read no byte of it."""
-    return (ctypes.c_char * length).from_address(id(unread))
+    return (ctypes.c_char * length).from_address(id(unreadable_buffer))
 
 
 @contextlib.contextmanager
-def by_threads(count, work):
+def running_in_threads(count, work):
     """Does some work in threads during a block, and waits for them at its end."""
     threads = [threading.Thread(target=work) for _ in range(count)]
     for thread in threads:
@@ -136,7 +136,7 @@ class Test(unittest.TestCase):
             file.truncate(length)
         return path
 
-    def refuses(self, kind, text, call, *args, **words):
+    def assert_refuses(self, kind, text, call, *args, **words):
         """The call raises this exception, and no subclass, with this text."""
         with self.assertRaises(kind) as caught:
             call(*args, **words)
@@ -144,8 +144,8 @@ class Test(unittest.TestCase):
 
 
 if __name__ == "__main__":
-    if cannot_build():
-        print(cannot_build())
+    if why_cannot_build():
+        print(why_cannot_build())
         sys.exit(77)
     print(build(os.path.abspath(sys.argv[1])))
     sys.exit()

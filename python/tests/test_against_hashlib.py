@@ -16,7 +16,7 @@ from families import FAMILIES, OUTPUTS, PLAIN
 import vulfsjor
 
 
-def edge_parameters(longest):
+def parameters_at_edges(longest):
     """Each parameter by itself, at its edges, beyond them, and of other types."""
     small, bits = longest // 4, 64 if longest == 64 else 48
     numbers = {"digest_size": (1, longest), "fanout": (0, 255), "depth": (1, 255), "leaf_size": (0, 2**32 - 1),
@@ -47,7 +47,7 @@ def edge_parameters(longest):
         yield {first: refused[first], second: refused[second]}
 
 
-def outcome(act):
+def outcome_of(act):
     """The result of a call, or the name and the message of its exception: None for the two
     messages that differ. That of pickle goes on."""
     try:
@@ -58,18 +58,18 @@ def outcome(act):
         return type(fault).__name__, None if differs else text
 
 
-def edges_of_calls(module, name, longest):
+def outcomes_of_edge_calls(module, name, longest):
     """The outcome of every call at the edges."""
     make = getattr(module, name)
-    for words in edge_parameters(longest):
-        yield words, outcome(lambda: make(b"message", **words).hexdigest())
-    for data in inputs():
-        yield data, outcome(lambda: make(data).hexdigest())
-        yield data, outcome(lambda: make().update(data))
-    yield "two", outcome(lambda: make(b"a", b"b"))
+    for words in parameters_at_edges(longest):
+        yield words, outcome_of(lambda: make(b"message", **words).hexdigest())
+    for data in hashed_and_refused_inputs():
+        yield data, outcome_of(lambda: make(data).hexdigest())
+        yield data, outcome_of(lambda: make().update(data))
+    yield "two", outcome_of(lambda: make(b"a", b"b"))
 
 
-def inputs():
+def hashed_and_refused_inputs():
     """Objects to hash, and objects that are refused."""
     mapped = mmap.mmap(-1, 5000, access=mmap.ACCESS_READ)
     yield from (b"", b"abc", bytearray(b"abc"), memoryview(b"abc"), memoryview(b"abcdef")[1:4], mapped,
@@ -78,54 +78,56 @@ def inputs():
                 "text", "", 1, None, [1, 2], object(), 1.5)
 
 
-class Compare(unittest.TestCase):
+class EdgeCallsTest(unittest.TestCase):
     """All calls at the edges."""
 
-    def test_edges(self):
+    def test_edge_calls_are_as_in_hashlib(self):
         count = 0
         for name, *_, longest in PLAIN:
-            for ours, theirs in zip(edges_of_calls(vulfsjor, name, longest), edges_of_calls(_blake2, name, longest),
+            for ours, theirs in zip(outcomes_of_edge_calls(vulfsjor, name, longest),
+                                    outcomes_of_edge_calls(_blake2, name, longest),
                                     strict=True):
                 self.assertEqual(ours[1:], theirs[1:], (name, ours))
                 count += 1
         self.assertGreater(count, 1000)
 
 
-def edges_of_objects(kind, make):
+def outcomes_of_object_calls(kind, make):
     """The outcome of calls of a class and its objects that return no digest."""
-    yield "none", outcome(lambda: make().update())
-    yield "digest", outcome(lambda: make().digest(1))
-    yield "subclass", outcome(lambda: type("Sub", (kind,), {}))
+    yield "none", outcome_of(lambda: make().update())
+    yield "digest", outcome_of(lambda: make().digest(1))
+    yield "subclass", outcome_of(lambda: type("Sub", (kind,), {}))
     for call in (pickle.dumps, copy.copy, vars, bytes, memoryview, len):
-        yield call, outcome(lambda: call(make()))
+        yield call, outcome_of(lambda: call(make()))
     yield "shown", repr(make()).partition(" at ")[0].replace("vulfsjor.", "_blake2.")
-    yield "attribute", outcome(lambda: setattr(make(), "other", 1))
+    yield "attribute", outcome_of(lambda: setattr(make(), "other", 1))
     for field in ("name", "block_size", "digest_size", "update"):
-        yield field, outcome(lambda: setattr(make(), field, 1))[0]
+        yield field, outcome_of(lambda: setattr(make(), field, 1))[0]
     for constant in ("MAX_DIGEST_SIZE", "MAX_KEY_SIZE", "SALT_SIZE", "PERSON_SIZE"):
         yield constant, getattr(kind, constant)
-        yield constant, outcome(lambda: setattr(kind, constant, 1))[0]
-        yield constant, outcome(lambda: delattr(kind, constant))[0]
+        yield constant, outcome_of(lambda: setattr(kind, constant, 1))[0]
+        yield constant, outcome_of(lambda: delattr(kind, constant))[0]
 
 
-def renamed(thing, old, new):
+def with_name_replaced(thing, old, new):
     """An outcome of a call, with another name of the hash in its message."""
     if isinstance(thing, str):
         return thing.replace(old, new)
-    return tuple(renamed(each, old, new) for each in thing) if isinstance(thing, tuple) else thing
+    return tuple(with_name_replaced(each, old, new) for each in thing) if isinstance(thing, tuple) else thing
 
 
-class Objects(unittest.TestCase):
+class ObjectsTest(unittest.TestCase):
     """Next to those of the plain family."""
 
-    def test_objects(self):
+    def test_objects_are_as_in_hashlib(self):
         """They are neither changed, nor subclassed, nor pickled, and show nothing of a key."""
         for name, make, _, _, longest in FAMILIES:
             plain, mac = name[:7], getattr(vulfsjor, f"{name}_mac")
             for kind, new in ((make, make), (mac, partial(mac, b"key", allow_short=True))):
                 theirs = getattr(_blake2, plain)
-                for ours, wanted in zip(edges_of_objects(kind, new), edges_of_objects(theirs, theirs), strict=True):
-                    self.assertEqual(ours, renamed(wanted, plain, kind.__name__))
+                for ours, wanted in zip(outcomes_of_object_calls(kind, new), outcomes_of_object_calls(theirs, theirs),
+                                        strict=True):
+                    self.assertEqual(ours, with_name_replaced(wanted, plain, kind.__name__))
                 made = new(digest_size=5)
                 self.assertEqual((made.name, made.block_size, made.digest_size), (kind.__name__, 2 * longest, 5))
                 self.assertEqual((type(made.copy()), made.copy().digest_size, new().digest_size), (kind, 5, longest))
@@ -135,7 +137,7 @@ class Objects(unittest.TestCase):
             for constant in ("MAX_DIGEST_SIZE", "MAX_KEY_SIZE", "SALT_SIZE", "PERSON_SIZE"):
                 self.assertEqual(getattr(vulfsjor, f"{name.upper()}_{constant}"), getattr(make, constant))
 
-    def test_outputs(self):
+    def test_output_objects_are_immutable(self):
         for name, make, longest, _ in OUTPUTS:
             self.assertEqual((make().name, make().block_size), (name, 2 * longest))
             self.assertRaises(TypeError, type, "Sub", (make,), {})

@@ -17,15 +17,15 @@ import weakref
 from collections import deque
 
 from families import FAMILIES, MIB, OUTPUTS, PLAIN
-from support import Test, WITHOUT_GIL, long, unread
+from support import Test, WITHOUT_GIL, long, unreadable_buffer
 import oracle
 import vulfsjor
 
 
-class Many(Test):
+class HashManyTest(Test):
     """Several messages in one call."""
 
-    def test_refusals(self):
+    def test_what_is_no_list_is_refused(self):
         """Of what has no order, and of one message: a buffer of single bytes, or a string."""
         with mmap.mmap(-1, 5) as mapped:
             one = "messages must be several, such as a list of bytes, not one"
@@ -37,11 +37,11 @@ class Many(Test):
                          array.array("B", b"abc"), array.array("b"), (ctypes.c_char * 3)(), mapped),
                         ("object supporting the buffer API required", [b"a", None], [1], array.array("d", [1]))):
                     for messages in wrong:
-                        self.refuses(TypeError, text, many, messages)
+                        self.assert_refuses(TypeError, text, many, messages)
                 self.assertEqual(many({b"name": b"message"}.values()), many([b"message"]))
                 self.assertRaises(BufferError, many, [b"x", memoryview(b"abcd")[::2]])
 
-    def test_many_messages(self):
+    def test_more_messages_than_16_bits_count(self):
         """More than any number of lanes, of bits and of bytes would hold."""
         messages = [bytes([i & 255]) * (i % 3 + 1) for i in range(70_000)]
         for _, _, theirs, many, _ in PLAIN:
@@ -50,7 +50,7 @@ class Many(Test):
             for place in (*range(0, 1100), *range(65_500, 65_600), 69_999):
                 self.assertEqual(found[place], theirs(messages[place]).digest())
 
-    def test_one_buffer(self):
+    def test_reused_buffer_is_copied_each_time(self):
         """What an iterator yields is that of its time: one buffer again and again, as `readinto` fills it, whole, in
         part, and of another length each time. What is in a list is that of the call."""
         data = bytes(i % 251 for i in range(3000))
@@ -95,7 +95,7 @@ class Many(Test):
             for several in ([buffer] * 2, (buffer, buffer), deque([buffer] * 2)):
                 self.assertEqual(many(several), [theirs(b"last").digest()] * 2)
 
-    def test_iterators(self):
+    def test_iterator_errors_end_the_call(self):
         """A message that is refused ends the call, and no other is asked for. The iterator's exception is that of the
         call."""
         def fails(message):
@@ -106,11 +106,11 @@ class Many(Test):
         for _, _, _, many, _ in PLAIN:
             for text, wrong in (("object supporting the buffer API required", None),
                                 ("Strings must be encoded before hashing", "text")):
-                self.refuses(TypeError, text, many, fails(wrong))
+                self.assert_refuses(TypeError, text, many, fails(wrong))
             self.assertRaises(BufferError, many, fails(memoryview(b"abcd")[::2]))
             self.assertRaises(KeyError, many, fails(bytearray(b"second")))
 
-    def test_key_of_the_call(self):
+    def test_key_is_that_at_the_call(self):
         """The key of all messages is that of the call, whatever the iterator's code makes of its memory."""
         def changes(key):
             for place in range(1030):
@@ -137,7 +137,7 @@ class Many(Test):
                 self.assertTrue(least <= tracemalloc.get_traced_memory()[1] <= most)
                 tracemalloc.stop()
 
-    def test_rows(self):
+    def test_rows_of_a_buffer_are_messages(self):
         """Of a buffer of longer items than bytes, which are messages."""
         rows = ((ctypes.c_char * 3) * 2).from_buffer_copy(b"abcxyz")
         for _, _, theirs, many, _ in PLAIN:
@@ -145,11 +145,11 @@ class Many(Test):
             self.assertEqual((many([]), many(())), ([], []))
 
 
-# Room for a copy of a region of the memory. It is shared, so that places_of does not search it.
+# Room for a copy of a region of the memory. It is shared, so that addresses_of_copies does not search it.
 COPY = mmap.mmap(-1, 1 << 28)
 
 
-def places_of(text):
+def addresses_of_copies(text):
     """The addresses of the copies of `text` in the memory that this process can write."""
     found = set()
     with open("/proc/self/maps") as maps, open("/proc/self/mem", "rb", 0) as memory:
@@ -169,12 +169,12 @@ def places_of(text):
     return found
 
 
-def deep(call, levels):
+def call_deep_in_stack(call, levels):
     """Makes a call, whose frames in C are so far down that later calls which are less deep do not overwrite them."""
-    return call() if levels == 0 else next(map(deep, [call], [levels - 1]))
+    return call() if levels == 0 else next(map(call_deep_in_stack, [call], [levels - 1]))
 
 
-class Secrets(unittest.TestCase):
+class KeyWipingTest(unittest.TestCase):
     """What is left of a key."""
 
     def test_a_dead_object_has_no_byte_of_its_state(self):
@@ -200,12 +200,12 @@ class Secrets(unittest.TestCase):
             end = size - 8 * (size > 512)  # malloc writes to the last bytes of what it has freed
             self.assertEqual(dead.raw[head:end], bytes(end - head))
 
-    def leave_no_copy(self, secret, calls, *objects):
+    def assert_no_copy_is_left(self, secret, calls, *objects):
         """After the calls the secret is only in these objects."""
         for depth, call in zip(range(60 * len(calls), 0, -60), calls):
             with contextlib.suppress(ValueError, OverflowError):
-                deep(call, depth)
-        found = places_of(secret)
+                call_deep_in_stack(call, depth)
+        found = addresses_of_copies(secret)
         spans = [range(id(each), id(each) + each.__sizeof__()) for each in objects]
         for span in spans:
             self.assertTrue(found.intersection(span))
@@ -219,7 +219,7 @@ class Secrets(unittest.TestCase):
             key = os.urandom(longest)
             mac = make(b"message", key=key)
             tag = mac.digest(*size)
-            self.leave_no_copy(key, (
+            self.assert_no_copy_is_left(key, (
                 lambda: mac.digest(*size), lambda: mac.hexdigest(*size), lambda: mac.copy().digest(*size),
                 *([lambda: mac.digest(99)] if size else [lambda: mac.verify(b"x"), lambda: mac.verify(tag)])), mac)
 
@@ -234,7 +234,7 @@ class Secrets(unittest.TestCase):
             count.value = 2**64 - 4 * longest
             for pieces in ([bytes(300)] * 9, [b"", b"x", b""] * 3, [b""] * 2, [b""]):
                 for more in ([], [late]):  # one by one: the next call overwrites what this one has left
-                    self.leave_no_copy(key, [lambda: vulfsjor.update_many(
+                    self.assert_no_copy_is_left(key, [lambda: vulfsjor.update_many(
                         [*(mac.copy() for _ in pieces), *more], pieces + [bytes(300)] * len(more))], mac, late)
 
     @unittest.skipIf(WITHOUT_GIL, "without the GIL the memory is too large to search")
@@ -245,13 +245,13 @@ class Secrets(unittest.TestCase):
         ends.update(message), within.update(message)
         with tempfile.TemporaryFile() as file:
             os.truncate(file.fileno(), 1 << 19)
-            self.leave_no_copy(message, (
+            self.assert_no_copy_is_left(message, (
                 lambda: ends.leaves_ahead(bytes(64)), lambda: within.leaves_ahead(bytes(99)),
-                lambda: within.update_leaves(bytes(64), b"x"), lambda: ends.update(unread(2**58), threads=3),
+                lambda: within.update_leaves(bytes(64), b"x"), lambda: ends.update(unreadable_buffer(2**58), threads=3),
                 lambda: ends._root_of_file("file", file.fileno(), 1 << 19, 2, None)), ends, within)
 
 
-class Counts(Test):
+class CountLimitsTest(Test):
     """Inputs end before 2^64 bytes, those of a tree before 2^58: a state whose count is set near there takes no
     more."""
 
@@ -274,11 +274,11 @@ class Counts(Test):
                     count.value = late
                 hasher.update(bytes(100))
                 before = hasher.digest(*size)
-                self.refuses(OverflowError, f"2^{bits} bytes or more", hasher.update, unread(length))
+                self.assert_refuses(OverflowError, f"2^{bits} bytes or more", hasher.update, unreadable_buffer(length))
                 self.assertEqual(hasher.digest(*size), before)
 
 
-class Views(unittest.TestCase):
+class NothingKeptTest(unittest.TestCase):
     """Calls keep nothing, whether they succeed or fail."""
 
     @staticmethod
@@ -323,10 +323,10 @@ class Views(unittest.TestCase):
             lambda: vulfsjor.tree_root(held, 1, salt=key), lambda: vulfsjor.tree_root("x", 5, salt=key),
             lambda: vulfsjor.tree_root(held, 0, threads=2), lambda: vulfsjor.tree_root(held, 1, threads=-1),
             lambda: vulfsjor.tree_root(long, 4096, threads=2), lambda: tree(4096).update(long, threads=2),
-            lambda: tree(1).update(held, threads=2), lambda: hasher.update(unread(2**58), threads=2),
+            lambda: tree(1).update(held, threads=2), lambda: hasher.update(unreadable_buffer(2**58), threads=2),
             lambda: vulfsjor.tree_leaves(held, 1, first=2**58 - 1, ends=True))
 
-    def test_nothing_is_kept(self):
+    def test_calls_keep_no_memory_or_view(self):
         """Calls that were made before need no more memory, nor one reference more to a class, and let the views of
         their arguments go: a bytearray can then grow."""
         def work():
@@ -357,10 +357,10 @@ class Views(unittest.TestCase):
         self.assertEqual([sys.getrefcount(kind) for kind in kinds], references)
 
 
-class Modules(unittest.TestCase):
+class ModuleStateTest(unittest.TestCase):
     """What a module keeps."""
 
-    def test_a_second_module(self):
+    def test_second_module_has_own_classes(self):
         """It has classes of its own, whatever its attributes are, and is freed with them."""
         def classes():
             return sum(isinstance(each, type) and each.__module__ == "vulfsjor" for each in gc.get_objects())
@@ -380,7 +380,7 @@ class Modules(unittest.TestCase):
         gc.collect()  # the class of the classes, which is free once they are
         self.assertEqual(([each() for each in gone], classes()), ([None] * 3, before))
 
-    def test_what_later_versions_are_told(self):
+    def test_slots_declare_no_gil(self):
         """The module runs without the GIL, and in interpreters with a GIL each: the first two of
         its slots, which Python knows from 3.13 and from 3.12 on."""
         class Slot(ctypes.Structure):
@@ -402,7 +402,7 @@ MARKS = (0, 4 * MIB - 1, 64 * MIB, 2**31 - 1, 2**31, 2**32 - 1, 2**32, 2**32 + 4
 
 
 @long
-class Slow(unittest.TestCase):
+class LongMessagesTest(unittest.TestCase):
     """Calls next to hashlib."""
 
     @classmethod
@@ -411,13 +411,13 @@ class Slow(unittest.TestCase):
         for place, mark in enumerate(MARKS, 1):
             cls.data[mark] = place
 
-    def test_long_messages(self):
+    def test_long_messages_hash_as_in_hashlib(self):
         for _, make, theirs, many, _ in PLAIN:
             wanted = theirs(self.data).digest()
             self.assertEqual(make(self.data).digest(), wanted)
             self.assertEqual(many([b"short", self.data, b"other"])[1], wanted)
 
-    def test_trees(self):
+    def test_long_trees_by_several_threads(self):
         """Of the mapping and of a file."""
         for leaf_size, threads in ((4 * MIB, 3), (64 * MIB, 1)):
             view, texts = memoryview(self.data), {"person": b"person"}
@@ -437,10 +437,10 @@ class Slow(unittest.TestCase):
                     file.name, leaf_size, threads=threads, progress=seen.append, **texts), wanted)
                 self.assertEqual((seen[-1], seen), (LENGTH, sorted(set(seen))))
 
-    def test_digests(self):
+    def test_root_of_2_to_26_digests(self):
         """2^26 of them, and one: 4 GiB."""
         digests = memoryview(self.data)[:2**32 + 64]
-        digests[-64:] = oracle.range_digests(bytes(7), 7, 2**26, True)
+        digests[-64:] = oracle.digests_of_leaf_range(bytes(7), 7, 2**26, True)
         wanted, hasher = oracle.root_of_leaves(digests, 7), vulfsjor.TreeHasher(7)
         self.assertEqual(vulfsjor.tree_root_of_leaves(digests, 7), wanted)
         hasher.update_leaves(digests[:-64], bytes(7))

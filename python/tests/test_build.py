@@ -22,13 +22,13 @@ from unittest import mock
 import zipfile
 
 import support
-from support import FOLDER, HERE, TOP, absent, cannot_compile, long, run
+from support import FOLDER, HERE, TOP, why_absent, why_cannot_compile, long, run
 
-support.needs_clone()
+support.skip_unless_in_clone()
 MODULE = os.path.join(FOLDER, "vulfsjor", "_library.abi3.so")
 PACKAGE = {"__init__.py", "_files.py", "_library.abi3.so", "_library.pyi", "py.typed"}
 X86 = platform.machine() == "x86_64"
-NO_ARM = cannot_compile("aarch64-linux-gnu-gcc")
+NO_ARM = why_cannot_compile("aarch64-linux-gnu-gcc")
 VERSION = re.search(r"(?m)^## ([0-9.]+)", pathlib.Path(TOP, "CHANGELOG.md").read_text(encoding="utf-8"))[1]
 ABOUT = f"vulfsjor-{VERSION}.dist-info"
 # Where the files of a source distribution come from.
@@ -43,41 +43,41 @@ for word; do [ "$last" = -o ] && made=$word; last=$word; done
 class Test(support.Test):
     """A test that runs programs."""
 
-    def succeeds(self, *words, **named):
+    def output_of_success(self, *words, **named):
         """Runs a program, whose status is 0, and returns what it prints."""
         done = run(*words, **named)
         self.assertEqual(done.returncode, 0, done.stdout)
         return done.stdout
 
-    def compares(self, folder, *prefix):
+    def assert_package_is_as_hashlib(self, folder, *prefix):
         """The package in a folder returns what hashlib does."""
-        self.succeeds(*prefix, sys.executable, "-m", "unittest", "test_against_hashlib", cwd=HERE,
-                      env={**os.environ, "VULFSJOR_PACKAGE": folder})
+        self.output_of_success(*prefix, sys.executable, "-m", "unittest", "test_against_hashlib", cwd=HERE,
+                               env={**os.environ, "VULFSJOR_PACKAGE": folder})
 
 
-@unittest.skipIf(absent(tools=["nm", "objdump"]), "no nm and objdump")
-class Module(Test):
+@unittest.skipIf(why_absent(tools=["nm", "objdump"]), "no nm and objdump")
+class ModuleSymbolsTest(Test):
     """The module, as other programs see it."""
 
-    def test_no_name_of_the_library_is_seen(self):
-        shown = self.succeeds("nm", "-D", "--defined-only", MODULE).split()
+    def test_module_exports_no_library_name(self):
+        shown = self.output_of_success("nm", "-D", "--defined-only", MODULE).split()
         self.assertEqual(shown[2:], ["PyInit__library"])
 
-    def test_oldest_glibc(self):
+    def test_oldest_glibc_is_that_of_readme(self):
         """That of the README, on x86-64."""
-        versions = re.findall(r"\(GLIBC_2\.([0-9.]+)\)", self.succeeds("objdump", "-T", MODULE))
+        versions = re.findall(r"\(GLIBC_2\.([0-9.]+)\)", self.output_of_success("objdump", "-T", MODULE))
         newest = max(tuple(map(int, version.split("."))) for version in versions)
         self.assertLessEqual(newest, (14,) if X86 else (17,))
 
 
-class Build(Test):
+class BuildTest(Test):
     """build_package.py, in copies of the repository."""
 
     def setUp(self):
-        if support.cannot_build():
-            self.skipTest(support.cannot_build())
+        if support.why_cannot_build():
+            self.skipTest(support.why_cannot_build())
 
-    def copied(self, name, *more):
+    def copy_sources(self, name, *more):
         """The folder of the package in a new copy of the sources, and of more folders."""
         folder = os.path.join(self.folder, name)
         for part in ("c", "dist", "python", *more):
@@ -103,7 +103,7 @@ class Build(Test):
                 return printed.getvalue(), end.code
             return printed.getvalue(), None
 
-    def made(self, call="wheel", folder=os.path.join(TOP, "python"), prefix="", **environment):
+    def build_archive(self, call="wheel", folder=os.path.join(TOP, "python"), prefix="", **environment):
         """The path of a new wheel or source distribution."""
         printed, why = self.build(call, folder, environment, prefix)
         self.assertIsNone(why)
@@ -111,42 +111,42 @@ class Build(Test):
 
     def wheel(self, module="_library.abi3.so", **words):
         """The name of a new wheel, its files by their names, and what the fake compiler has written."""
-        path = self.made(**words)
+        path = self.build_archive(**words)
         with zipfile.ZipFile(path) as wheel:
             found = {name: wheel.read(name) for name in wheel.namelist()}
         return os.path.basename(path), found, found[f"vulfsjor/{module}"].decode()
 
-    def refused(self, folder=os.path.join(TOP, "python"), prefix="", **environment):
+    def why_refused(self, folder=os.path.join(TOP, "python"), prefix="", **environment):
         """Why a build is refused, with lines of Python before it. It prints nothing else."""
         printed, why = self.build("wheel", folder, environment, prefix)
         self.assertEqual((printed, type(why)), ("", str), why)
         return why
 
-    def fake(self, name="fake compiler", printing="""printf '%s\\n' "$@\""""):
+    def fake_compiler(self, name="fake compiler", printing="""printf '%s\\n' "$@\""""):
         """The path of a compiler that writes its words, or what another command prints."""
         path = os.path.join(self.folder, name)
         with open(path, "w", encoding="utf-8", opener=lambda *at: os.open(*at, 0o755)) as file:
             file.write(FAKE.format(printing))
         return path
 
-    def test_portable(self):
+    def test_portable_module_works(self):
         """A module of portable C works."""
-        with zipfile.ZipFile(self.made(VULFSJOR_PORTABLE="1", CFLAGS="-O0")) as wheel:
+        with zipfile.ZipFile(self.build_archive(VULFSJOR_PORTABLE="1", CFLAGS="-O0")) as wheel:
             wheel.extractall(os.path.join(self.folder, "portable"))
         code = "import vulfsjor; print(vulfsjor.blake2b(b'abc', key=b'k').hexdigest())"
-        has_emulator = X86 and not absent(tools=["qemu-x86_64"])
-        self.assertEqual(self.succeeds(*["qemu-x86_64", "-cpu", "core2duo"] * has_emulator, sys.executable, "-S", "-c",
-                                       code, cwd=os.path.join(self.folder, "portable")).strip(),
+        has_emulator = X86 and not why_absent(tools=["qemu-x86_64"])
+        self.assertEqual(self.output_of_success(*["qemu-x86_64", "-cpu", "core2duo"] * has_emulator, sys.executable,
+                                                "-S", "-c", code, cwd=os.path.join(self.folder, "portable")).strip(),
                          hashlib.blake2b(b"abc", key=b"k").hexdigest())
 
-    def test_what_is_missing(self):
+    def test_errors_name_what_is_missing(self):
         none = "there is no C compiler{}: install GCC{}, or set CC"
         for said, environment in (
                 (none.format("", " or Clang"), {"PATH": ""}),
                 (none.format(" absent -x", " or Clang"), {"CC": "absent -x"}),
                 (none.format("", " of MinGW-w64"), {"PATH": "", "_PYTHON_HOST_PLATFORM": "win-amd64"}),
                 ("MSVC cannot assemble the code of vulfsjor: set CC to the GCC of MinGW-w64",
-                 {"CC": self.fake("CL.exe"), "_PYTHON_HOST_PLATFORM": "win-amd64"}),
+                 {"CC": self.fake_compiler("CL.exe"), "_PYTHON_HOST_PLATFORM": "win-amd64"}),
                 *(("vulfsjor is assembly for Linux, macOS and Windows on x86-64 and on 64-bit ARM, and has none for "
                    f"{name}", {"_PYTHON_HOST_PLATFORM": name})
                   for name in ("macosx-11.0-universal2", "win32", "win-arm32")),
@@ -154,33 +154,33 @@ class Build(Test):
                 ("the compiler failed: Python.h is missing; install the headers, such as Debian's python3-dev",
                  {"CC": "false", "prefix": "sysconfig.get_path = lambda name: '/absent'"}),
                 ("vulfsjor needs CPython 3.11 or later", {"prefix": "sys.version_info = (3, 10, 9)"})):
-            self.assertEqual(self.refused(**environment), f"build_package.py: {said}")
+            self.assertEqual(self.why_refused(**environment), f"build_package.py: {said}")
         for arguments in (["wheel"], ["egg", self.folder], ["wheel", self.folder, "more"]):
-            self.assertEqual(self.refused(prefix=f"sys.argv[1:] = {arguments}"),
+            self.assertEqual(self.why_refused(prefix=f"sys.argv[1:] = {arguments}"),
                              "usage: build_package.py wheel|sdist FOLDER")
 
-    def test_the_choice_of_a_compiler(self):
+    def test_compiler_is_cc_of_python_or_gcc(self):
         """That of this Python, or cc, or gcc, if CC is not set. Each is removed once it was used."""
         folder = tempfile.mkdtemp(dir=self.folder)
         names = ("own", "cc", "gcc")
         for name in names:
-            self.fake(os.path.join(folder, name), f"echo {name}")
+            self.fake_compiler(os.path.join(folder, name), f"echo {name}")
         for name in names:
             *_, said = self.wheel(CC="", PATH=folder, prefix="sysconfig.get_config_var = {'CC': 'own -x'}.get")
             self.assertEqual(said, f"{name}\n")
             os.remove(os.path.join(folder, name))
 
-    def test_a_python_without_the_gil(self):
+    def test_wheel_without_gil_is_per_version(self):
         """Its module and its wheel are for one version, which the name of the wheel has."""
         name, files, said = self.wheel(
-            "_library.own.so", CC=f"'{self.fake()}'", VULFSJOR_WHEEL_PLATFORM="a-platform.5",
+            "_library.own.so", CC=f"'{self.fake_compiler()}'", VULFSJOR_WHEEL_PLATFORM="a-platform.5",
             prefix="sysconfig.get_config_var = {'Py_GIL_DISABLED': 1, 'EXT_SUFFIX': '.own.so'}.get")
         version = f"cp3{sys.version_info.minor}"
         self.assertEqual(name, f"vulfsjor-{VERSION}-{version}-{version}t-a_platform_5.whl")
         self.assertIn(f"\nTag: {version}-{version}t-a_platform_5\n", files[f"{ABOUT}/WHEEL"].decode())
         self.assertIn("\n-DPy_GIL_DISABLED=1\n", said)
 
-    def test_the_words_of_a_platform(self):
+    def test_compiler_words_of_each_platform(self):
         """Those that the compiler gets, and the name of the wheel. It is portable C where there is no assembly, and if
         that is asked for."""
         linux, windows = "-fPIC -shared -pthread -Wl,--gc-sections -Wl,-z,relro,-z,now", \
@@ -196,8 +196,8 @@ class Build(Test):
                 ("linux-x86_64", linux, portable, {"VULFSJOR_PORTABLE": "1"}),
                 ("linux-x86_64", linux, portable, {"prefix": "sys.maxsize = 2**31 - 1"})):
             end = "pyd" if options == windows else "abi3.so"
-            name, _, said = self.wheel(f"_library.{end}", CC=f"'{self.fake()}' -x", CFLAGS="-g '-D A'", LDFLAGS="-lz",
-                                       _PYTHON_HOST_PLATFORM=platform_name, **more)
+            name, _, said = self.wheel(f"_library.{end}", CC=f"'{self.fake_compiler()}' -x", CFLAGS="-g '-D A'",
+                                       LDFLAGS="-lz", _PYTHON_HOST_PLATFORM=platform_name, **more)
             words = said.splitlines()
             self.assertEqual(name, f"vulfsjor-{VERSION}-cp311-abi3-{re.sub('[-.]', '_', platform_name)}.whl")
             self.assertEqual([word for word in words if word.endswith((".c", ".s", ".S"))],
@@ -210,9 +210,9 @@ class Build(Test):
             self.assertEqual(words[words.index("-g"):words.index("-o")], ["-g", "-D A", *options.split()])
             self.assertIn(f"-I{sysconfig.get_path('include')}", words)
 
-    def test_the_text_of_a_platform(self):
+    def test_assembly_text_of_each_platform(self):
         """What the assembler gets: the macros of the system, the marks, and the texts."""
-        keep = f"'{self.fake(printing='cat src/vulfsjor.s')}'"
+        keep = f"'{self.fake_compiler(printing='cat src/vulfsjor.s')}'"
         for name, end, macros, *texts in (
                 ("linux-x86_64", "abi3.so", "x86_64/elf", *(f"x86_64/vulfsjor-v{level}" for level in (2, 3, 4))),
                 ("macosx-11.0-arm64", "abi3.so", "aarch64/macho", "aarch64/vulfsjor"),
@@ -222,15 +222,15 @@ class Build(Test):
             *_, said = self.wheel(f"_library.{end}", CC=keep, _PYTHON_HOST_PLATFORM=name)
             self.assertTrue(said == "".join([head, "\tvj_marks\n", *parts]), name)
 
-    def test_a_copy_of_the_folder_alone(self):
-        shutil.move(self.copied("clone"), os.path.join(self.folder, "alone"))
-        self.assertEqual(self.refused(os.path.join(self.folder, "alone")),
+    def test_folder_without_clone_is_refused(self):
+        shutil.move(self.copy_sources("clone"), os.path.join(self.folder, "alone"))
+        self.assertEqual(self.why_refused(os.path.join(self.folder, "alone")),
                          "build_package.py: ../c/include/vulfsjor.h is missing: build in a clone of the repository, "
                          "since the package shares files with c/ and dist/, or from a source distribution")
 
-    def test_wheel(self):
+    def test_contents_of_a_wheel(self):
         """What is in a wheel, next to a module of the fake compiler."""
-        name, contents, _ = self.wheel(CC=self.fake().replace(" ", "\\ "))
+        name, contents, _ = self.wheel(CC=self.fake_compiler().replace(" ", "\\ "))
         here = pathlib.Path(TOP, "python")
         project = tomllib.loads((here / "pyproject.toml").read_text(encoding="utf-8"))["project"]
         with zipfile.ZipFile(os.path.join(self.folder, name)) as file:
@@ -259,15 +259,15 @@ class Build(Test):
             *(("Classifier", each) for each in project["classifiers"]),
             ("Requires-Python", ">=3.11"), ("Description-Content-Type", "text/markdown")])
 
-    def test_calls_of_an_installer(self):
+    def test_metadata_and_editable_wheel(self):
         """What describes a wheel is the same before it is built. A wheel for work on the package
         points to its folder, which has the module."""
-        folder = self.copied("a clone")
+        folder = self.copy_sources("a clone")
         lines = (f"import sys\nsys.path.insert(0, {folder!r})\nimport build_package as build\n"
                  "print(build.prepare_metadata_for_build_editable('.'))\n"
                  "print(build.build_editable('.', None, build.ABOUT))")
-        named, wheel = self.succeeds(sys.executable, "-c", lines, cwd=self.folder, env={
-            **os.environ, "CC": self.fake().replace(" ", "\\ ")}).splitlines()
+        named, wheel = self.output_of_success(sys.executable, "-c", lines, cwd=self.folder, env={
+            **os.environ, "CC": self.fake_compiler().replace(" ", "\\ ")}).splitlines()
         self.assertEqual(named, ABOUT)
         with zipfile.ZipFile(os.path.join(self.folder, wheel)) as file:
             self.assertEqual(sorted(file.namelist()), [
@@ -277,13 +277,13 @@ class Build(Test):
                 self.assertEqual(file.read(name), pathlib.Path(self.folder, name).read_bytes())
         self.assertTrue(os.path.exists(os.path.join(folder, "vulfsjor", "_library.abi3.so")))
 
-    def test_source_distribution(self):
+    def test_contents_of_a_source_distribution(self):
         """It has what it needs and nothing else, and its own files are what it uses. In another
         folder and at another time it is the same."""
-        path, folder = pathlib.Path(self.made("sdist")), os.path.join(self.folder, f"vulfsjor-{VERSION}")
-        first, clone = path.read_bytes(), self.copied("a clone", "tests", "tools")
+        path, folder = pathlib.Path(self.build_archive("sdist")), os.path.join(self.folder, f"vulfsjor-{VERSION}")
+        first, clone = path.read_bytes(), self.copy_sources("a clone", "tests", "tools")
         pathlib.Path(clone, "vulfsjor", "_library.abi3.so").touch()  # as an editable install leaves one
-        self.made("sdist", clone, TZ="Asia/Tokyo")
+        self.build_archive("sdist", clone, TZ="Asia/Tokyo")
         self.assertEqual(path.read_bytes(), first)
         with tarfile.open(path) as file:
             self.assertEqual({(each.mode, each.uid, each.mtime) for each in file}, {(0o644, 0, 315532800)})
@@ -302,19 +302,19 @@ class Build(Test):
             self.assertEqual(text, pathlib.Path(TOP, place).read_bytes(), name)
             if place.startswith(("c/", "dist/")) and name != "src/MANIFEST":
                 path.write_bytes(text + b"\n")
-                self.assertEqual(self.refused(folder), f"build_package.py: {place} is not as in dist/MANIFEST, "
+                self.assertEqual(self.why_refused(folder), f"build_package.py: {place} is not as in dist/MANIFEST, "
                                  "so it is not what was tested")
                 path.write_bytes(text)
         self.assertIn(f"\nVersion: {VERSION}\n", pathlib.Path(folder, "PKG-INFO").read_text(encoding="utf-8"))
         os.remove(os.path.join(folder, "src", "choose.c"))
-        self.assertIn("build_package.py: src/choose.c is missing", self.refused(folder))
+        self.assertIn("build_package.py: src/choose.c is missing", self.why_refused(folder))
 
     @long
-    @unittest.skipIf(absent("pip"), absent("pip"))
-    def test_wheels_are_the_same(self):
+    @unittest.skipIf(why_absent("pip"), why_absent("pip"))
+    def test_wheels_are_reproducible(self):
         """From a clone, whose old copies are not used and which stays as it is, and by pip from a
         source distribution."""
-        folder = self.copied("a clone")
+        folder = self.copy_sources("a clone")
         for name in ("src/vulfsjor.h", "src/choose.c", "src/thunks.h", "vulfsjor/_library.abi3.so"):
             pathlib.Path(folder, name).write_text("#error old\n", encoding="utf-8")
 
@@ -323,33 +323,33 @@ class Build(Test):
                 f"{self.folder}/a clone/**", recursive=True, include_hidden=True)}
 
         before = state()
-        wheel = pathlib.Path(self.made("wheel", folder, CFLAGS="-g"))  # which names the folder of the compiler
+        wheel = pathlib.Path(self.build_archive("wheel", folder, CFLAGS="-g"))  # which names the folder of the compiler
         self.assertEqual(state(), before)
         first = wheel.read_bytes()
         wheel.unlink()
-        self.succeeds(sys.executable, "-m", "pip", "--disable-pip-version-check", "wheel", "--no-index",
-                      self.made("sdist"), cwd=self.folder, env={**os.environ, "CFLAGS": "-g"})
+        self.output_of_success(sys.executable, "-m", "pip", "--disable-pip-version-check", "wheel", "--no-index",
+                               self.build_archive("sdist"), cwd=self.folder, env={**os.environ, "CFLAGS": "-g"})
         self.assertEqual(wheel.read_bytes(), first)
 
     @long
-    @unittest.skipIf(absent("ensurepip"), absent("ensurepip"))
-    def test_pip_installs_the_folder(self):
+    @unittest.skipIf(why_absent("ensurepip"), why_absent("ensurepip"))
+    def test_pip_installs_the_python_folder(self):
         """As the README says, in a new clone without a network. What is installed is compared with hashlib."""
-        page = pathlib.Path(self.copied("a clone"), "README.md").read_text(encoding="utf-8")
+        page = pathlib.Path(self.copy_sources("a clone"), "README.md").read_text(encoding="utf-8")
         said = re.search("virtual environment:\\n((?:\\n    .*)+)\\n\\n", page)[1]
         first, last = said.strip().split("\n    ")
         self.assertRegex(f"{first}\n{last}", r"\A.* -m venv venv\n.*/pip install \./python\Z")
         os.symlink(sys.executable, os.path.join(self.folder, "python3"))
         named = dict(cwd=os.path.join(self.folder, "a clone"), env={
             **os.environ, "PATH": f"{self.folder}:{os.environ['PATH']}", "PIP_NO_INDEX": "1"})
-        self.succeeds("sh", "-ec", first, **named)
-        self.succeeds("sh", "-ec", last, **named)
+        self.output_of_success("sh", "-ec", first, **named)
+        self.output_of_success("sh", "-ec", last, **named)
         installed, = glob.glob(f"{self.folder}/a clone/venv/lib/python*/site-packages")
         self.assertEqual(set(os.listdir(os.path.join(installed, "vulfsjor"))) - {"__pycache__"}, PACKAGE)
-        self.compares(installed)
+        self.assert_package_is_as_hashlib(installed)
 
     @unittest.skipIf(NO_ARM, NO_ARM)
-    def test_module_for_arm(self):
+    def test_module_for_arm_links(self):
         """The module for 64-bit ARM is compiled and linked. Debian's headers have a pyconfig.h for
         each processor; that of this one serves, since both have numbers of the same sizes."""
         here = sysconfig.get_config_var("MULTIARCH")
@@ -361,22 +361,22 @@ class Build(Test):
                       CC="aarch64-linux-gnu-gcc", _PYTHON_HOST_PLATFORM="linux-aarch64")
         path = pathlib.Path(self.folder, "vulfsjor", "_library.abi3.so")
         self.assertEqual(path.read_bytes()[18:20], b"\xb7\0")  # EM_AARCH64
-        names = self.succeeds("aarch64-linux-gnu-nm", "-D", path).split("\n")
+        names = self.output_of_success("aarch64-linux-gnu-nm", "-D", path).split("\n")
         self.assertEqual([name.split()[-1] for name in names if " T " in name], ["PyInit__library"])
         unmet = [name.split()[-1] for name in names if " U " in name]
         self.assertEqual([name for name in unmet if "blake2" in name or "vulfsjor" in name], [])
         self.assertIn("PyModuleDef_Init", unmet)
 
 
-@unittest.skipUnless(X86 and not absent(tools=["qemu-x86_64"]), "no qemu-x86_64, or no x86-64")
-class Processors(Test):
+@unittest.skipUnless(X86 and not why_absent(tools=["qemu-x86_64"]), "no qemu-x86_64, or no x86-64")
+class ProcessorsTest(Test):
     """Processors that qemu emulates."""
 
     @long
-    def test_processor_without_avx2(self):
-        self.compares(FOLDER, "qemu-x86_64", "-cpu", "Nehalem")
+    def test_processor_without_avx2_works(self):
+        self.assert_package_is_as_hashlib(FOLDER, "qemu-x86_64", "-cpu", "Nehalem")
 
-    def test_a_processor_below_x86_64_v2(self):
+    def test_old_processor_is_refused(self):
         """And one that is of it. c/tests/choosing.sh has those that lack one feature each."""
         program = f"import sys\nsys.path.insert(0, {FOLDER!r})\nimport vulfsjor"
         for processor, status, said in (("Nehalem", 0, []), ("core2duo", 1, [
@@ -412,15 +412,15 @@ unittest.main(theirs, argv=["", "--verbose"])
 """
 
 
-class Programs(Test):
+class ProgramsTest(Test):
     """Programs over the module."""
 
     @long
-    @unittest.skipIf(absent(tools=["valgrind"]), "no valgrind")
+    @unittest.skipIf(why_absent(tools=["valgrind"]), "no valgrind")
     def test_verify_takes_equal_time(self):
         """The least instructions of a comparison do not depend on the place where a tag differs.
         Each comparison is counted in a file of its own."""
-        self.succeeds(
+        self.output_of_success(
             "valgrind", "--tool=callgrind", f"--callgrind-out-file={self.folder}/count", "--toggle-collect=verify",
             "--dump-after=verify", sys.executable, "-S", "-c", VERIFY,
             env={**os.environ, "PYTHONHASHSEED": "0", "PYTHONMALLOC": "malloc"})
@@ -432,9 +432,9 @@ class Programs(Test):
         self.assertEqual(len(least), 1, counts)
         self.assertGreater(min(least), 1000)
 
-    @unittest.skipIf(absent("test.test_hashlib"), "no test.test_hashlib")
-    def test_hashlib_of_cpython(self):
-        said = self.succeeds(sys.executable, "-c", THEIRS, cwd=self.folder)
+    @unittest.skipIf(why_absent("test.test_hashlib"), "no test.test_hashlib")
+    def test_hashlib_tests_of_cpython_pass(self):
+        said = self.output_of_success(sys.executable, "-c", THEIRS, cwd=self.folder)
         self.assertGreaterEqual(len(re.findall(r"(?m)^test_\w*blake2", said)), 12, said)
 
 

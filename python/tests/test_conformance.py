@@ -11,11 +11,11 @@ import re
 import tempfile
 import unittest
 
-from support import TOP, needs_clone, run  # first: it builds the package
+from support import TOP, skip_unless_in_clone, run  # first: it builds the package
 
 import vulfsjor
 
-needs_clone()
+skip_unless_in_clone()
 NAMES = {"size": "digest_size", "leaf": "leaf_size", "offset": "node_offset", "node": "node_depth",
          "inner": "inner_size", "last": "last_node"}
 HASHES = ("blake2b", "blake2s", "blake2bp", "blake2sp", "blake2xb", "blake2xs", "tree")
@@ -44,7 +44,7 @@ SKIPPED = {
     "tree": {"verify": 108, "equal": 98, "reset": 99}}
 
 
-class Absent(Exception):
+class MissingInPython(Exception):
     """A call that Python has not, or another answer."""
 
 
@@ -69,7 +69,7 @@ class Driver:
         self.given.append((made, data))
         return made
 
-    def outcome(self, call):
+    def outcome_of_call(self, call):
         """What a call returns, or the exception that it raises."""
         verb, *words = call.split()
         named = dict(word.split("=") for word in words if "=" in word)
@@ -87,16 +87,16 @@ class Driver:
             value = value.hex() or "-"
         return "" if value is None else f"= {value}"
 
-    def arguments(self, name, words):
+    def to_keywords(self, name, words):
         found = {}
         if words.get("key") == "-":
-            raise Absent("an empty key, which is none except for a MAC")
+            raise MissingInPython("an empty key, which is none except for a MAC")
         for word, value in words.items():
             if word in ("key", "salt", "person"):
                 found[word] = self.bytes_of(value)
             elif "x" in name and word == "size":
                 if value == "none":
-                    raise Absent("None is a length that is not known")
+                    raise MissingInPython("None is a length that is not known")
                 found["length"] = None if value == "unknown" else int(value)
             else:
                 found[NAMES.get(word, word)] = None if value == "none" else int(value)
@@ -104,14 +104,14 @@ class Driver:
 
     def of(self, slot):
         if self.objects.get(slot) is None:
-            raise Absent("state")
+            raise MissingInPython("state")
         return self.objects[slot]
 
     # ---- calls of an object
 
     def new(self, slot, name, **words):
         self.objects[slot] = self.places[slot] = None
-        given = self.arguments(name, words)
+        given = self.to_keywords(name, words)
         self.keyed[slot] = "key" in given
         made = vulfsjor.TreeHasher(**given) if name == "tree" else getattr(vulfsjor, name)(**given)
         assert name != "tree" or (made.leaf_size, made.count) == (given["leaf_size"], 0)
@@ -120,7 +120,7 @@ class Driver:
     def update(self, slot, message):
         hasher = self.of(slot)
         if self.places[slot] is not None:
-            raise Absent("an output that was read absorbs more")
+            raise MissingInPython("an output that was read absorbs more")
         assert hasher.update(self.bytes_of(message)) is None
 
     def updates(self, slots, *messages):
@@ -157,7 +157,7 @@ class Driver:
     def verify(self, slot, tag):
         hasher, given = self.of(slot), self.bytes_of(tag)
         if not hasattr(hasher, "verify"):
-            raise Absent("verify")
+            raise MissingInPython("verify")
         is_right = True
         try:
             assert hasher.verify(given) is None
@@ -187,7 +187,7 @@ class Driver:
     # ---- calls without an object
 
     def hash(self, name, message, **words):
-        given, data = self.arguments(name, words), self.bytes_of(message)
+        given, data = self.to_keywords(name, words), self.bytes_of(message)
         if name == "tree":
             value = vulfsjor.tree_root(data, **given)
             assert value == vulfsjor.tree_root(data, **given, threads=3), "another root by threads"
@@ -202,12 +202,12 @@ class Driver:
         if "key" in given and "x" not in name and set(given) <= {"key", "digest_size", "salt", "person"}:
             mac = getattr(vulfsjor, f"{name}_mac")(data=data, **given, allow_short=True)
             assert mac.verify(value) is None
-            self.refuses_tags(mac, value[:-1] + bytes([value[-1] ^ 1]), value[:-1], value + b"\0")
+            self.assert_refuses_tags(mac, value[:-1] + bytes([value[-1] ^ 1]), value[:-1], value + b"\0")
             assert value == mac.digest() == mac.copy().digest() and len(value) == mac.digest_size, "another tag"
         return value
 
     @staticmethod
-    def refuses_tags(mac, *tags):
+    def assert_refuses_tags(mac, *tags):
         for tag in tags:
             try:
                 mac.verify(tag)
@@ -216,20 +216,20 @@ class Driver:
             raise AssertionError(f"{tag.hex()} is accepted")
 
     def many(self, name, *messages, **words):
-        given = self.arguments(name, words)
+        given = self.to_keywords(name, words)
         return b"".join(getattr(vulfsjor, f"{name}_many")(map(self.bytes_of, messages), **given))
 
     def derive(self, context, key, size):
         return vulfsjor.derive_key(self.bytes_of(key), self.bytes_of(context), int(size))
 
     def leaves(self, message, first, ends, **words):
-        given, data = self.arguments("tree", words), self.bytes_of(message)
+        given, data = self.to_keywords("tree", words), self.bytes_of(message)
         digests = vulfsjor.tree_leaves(data, **given, first=int(first), ends=ends == "1")
         assert len(digests) == 64 * vulfsjor.tree_leaf_count(len(data), given["leaf_size"])
         return digests
 
     def top(self, digests, **words):
-        return vulfsjor.tree_root_of_leaves(self.bytes_of(digests), **self.arguments("tree", words))
+        return vulfsjor.tree_root_of_leaves(self.bytes_of(digests), **self.to_keywords("tree", words))
 
     def next(self, slot, skip, message):
         return self.of(slot).leaves_ahead(self.bytes_of(message), skip=int(skip))
@@ -239,7 +239,7 @@ class Driver:
         self.of(slot).update_leaves(self.of(slot).leaves_ahead(data) if data else b"", self.bytes_of(message))
 
 
-def is_outcome(got, wanted, call):
+def is_wanted_outcome(got, wanted, call):
     """Whether an outcome is the wanted one."""
     if not isinstance(got, Exception):
         return got == wanted or (got == "" and call.split()[0] in ("count", "left"))
@@ -250,7 +250,7 @@ def is_outcome(got, wanted, call):
     return not isinstance(got, TypeError) and any(re.search(REASONS[name], str(got)) for name in wanted[2:].split(","))
 
 
-class Cases(unittest.TestCase):
+class ConformanceTest(unittest.TestCase):
     @classmethod
     def setUpClass(cls):
         cls.folder = os.environ.get("VULFSJOR_CONFORMANCE")
@@ -260,7 +260,7 @@ class Cases(unittest.TestCase):
             cls.folder = made.name
             run("python3", os.path.join(TOP, "tests", "conformance", "write.py"), cls.folder)
 
-    def try_file(self, hash_name):
+    def run_cases_of_hash(self, hash_name):
         driver, name, cases, absent = Driver(), "", 0, {}
         with open(os.path.join(self.folder, f"{hash_name}.txt"), encoding="ascii") as file:
             for line in map(str.rstrip, file):
@@ -270,22 +270,23 @@ class Cases(unittest.TestCase):
                     call, *wanted = re.split(r" (?=[=!] )", line)
                     wanted = wanted[0] if wanted else ""
                     try:
-                        got = driver.outcome(call)
-                        self.assertTrue(is_outcome(got, wanted, call), f"{name}: {line[:200]}\n  gives {got!r:.200}")
+                        got = driver.outcome_of_call(call)
+                        self.assertTrue(is_wanted_outcome(got, wanted, call),
+                                        f"{name}: {line[:200]}\n  gives {got!r:.200}")
                     except AssertionError as error:
                         self.fail(f"{name}: {line[:200]}\n  {error}")
-                    except (Absent, AttributeError) as error:
+                    except (MissingInPython, AttributeError) as error:
                         if str(error) != "state" or wanted != "! state":
                             absent[call.split()[0]] = absent.get(call.split()[0], 0) + 1
                             driver = None
         self.assertGreater(cases, 500)
         return absent
 
-    def test_cases(self):
+    def test_all_cases_of_each_hash(self):
         """The cases of each hash. A case ends early at a call that Python does not have: SKIPPED has their numbers."""
         for hash_name in HASHES:
             with self.subTest(hash_name):
-                self.assertEqual(self.try_file(hash_name), SKIPPED[hash_name])
+                self.assertEqual(self.run_cases_of_hash(hash_name), SKIPPED[hash_name])
 
 
 if __name__ == "__main__":

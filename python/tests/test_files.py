@@ -17,8 +17,8 @@ import tracemalloc
 import unittest
 from unittest import mock
 
-from families import DATA, FAMILIES, MIB, TEXTS, have_ended
-from support import Test, by_threads
+from families import DATA, FAMILIES, MIB, TEXTS, have_hashing_threads_ended
+from support import Test, running_in_threads
 import oracle
 import vulfsjor
 from vulfsjor import _files
@@ -50,10 +50,10 @@ class File(io.RawIOBase):
         return len(read)
 
 
-class Digests(Test):
+class FileDigestTest(Test):
     """Which bytes are hashed."""
 
-    def test_lengths(self):
+    def test_lengths_around_buffer_ends(self):
         """Around the ends of the buffer, of files with a buffer of their own and without, from a position on. All of
         io.BytesIO is hashed, as by hashlib."""
         path = pathlib.Path(self.folder, "file")
@@ -75,7 +75,7 @@ class Digests(Test):
                              (place, hashlib.blake2b(data).digest()))
             held.write(b"longer" * 999)  # its bytes are not held any longer
 
-    def test_parameters(self):
+    def test_parameters_are_passed_on(self):
         data = DICE.randbytes(1000)
         for name, wanted in NAMED.items():
             words = {"digest_size": 20, "key": KEY, "salt": b"salt", "person": b"person"}
@@ -114,14 +114,14 @@ class Digests(Test):
         data = DICE.randbytes(700_001)
         reads, writes = os.pipe()
         end = open(writes, "wb")
-        with by_threads(1, lambda: (end.write(data), end.close())), open(reads, "rb") as file:
+        with running_in_threads(1, lambda: (end.write(data), end.close())), open(reads, "rb") as file:
             self.assertEqual(vulfsjor.file_digest(file, "blake2s").digest(), hashlib.blake2s(data).digest())
 
 
-class Refusals(Test):
+class FileDigestRefusalsTest(Test):
     """What is refused, as by hashlib.file_digest where that refuses it too."""
 
-    def test_files(self):
+    def test_wrong_files_are_refused(self):
         path = os.path.join(self.folder, "file")
         with open(path, "w", encoding="utf-8") as text, open(path + "2", "wb") as written, \
                 open(path, encoding="utf-8") as read, open(path, "rb") as closed:
@@ -129,7 +129,7 @@ class Refusals(Test):
             for file in (path, None, 5, b"abc", bytearray(), [b"x"], text, written, io.StringIO("x"), read, closed):
                 with self.assertRaises(ValueError) as theirs:
                     hashlib.file_digest(file, "blake2b")
-                self.refuses(ValueError, str(theirs.exception), vulfsjor.file_digest, file, "blake2b")
+                self.assert_refuses(ValueError, str(theirs.exception), vulfsjor.file_digest, file, "blake2b")
         held = io.BytesIO(b"x")
         held.close()
         self.assertRaises(ValueError, vulfsjor.file_digest, held, "blake2b")
@@ -148,19 +148,20 @@ class Refusals(Test):
                 vulfsjor.file_digest(File(b"abc", error), "blake2b")
             self.assertIs(caught.exception, error)
         for wrong in (BUFFER + 1, -1, 2**70):
-            self.refuses(OSError, f"readinto() returned {wrong} for a buffer of {BUFFER} bytes", vulfsjor.file_digest,
-                         File(b"abc", wrong), "blake2b")
+            self.assert_refuses(OSError, f"readinto() returned {wrong} for a buffer of {BUFFER} bytes",
+                                vulfsjor.file_digest, File(b"abc", wrong), "blake2b")
         self.assertEqual(vulfsjor.file_digest(File(bytes(BUFFER)), "blake2b").digest(),
                          hashlib.blake2b(bytes(BUFFER)).digest())
 
-    def test_names(self):
+    def test_wrong_hash_names_are_refused(self):
         for name in ("", "blake2", "BLAKE2b", "sha256", "blake2b_many", "tree_root", "TreeHasher", "InvalidTag",
                      "BLAKE2B_SALT_SIZE", "derive_key", "__name__", "blake2c"):
-            self.refuses(ValueError, f"unsupported hash type {name}", vulfsjor.file_digest, io.BytesIO(b"x"), name)
+            self.assert_refuses(ValueError, f"unsupported hash type {name}", vulfsjor.file_digest, io.BytesIO(b"x"),
+                                name)
         for wrong in (None, 5, b"blake2b", vulfsjor.blake2b(), object()):
             self.assertRaises(TypeError, vulfsjor.file_digest, io.BytesIO(b"x"), wrong)
 
-    def test_arguments(self):
+    def test_wrong_arguments_are_refused(self):
         digest, file = vulfsjor.file_digest, File(b"x")
         for call in (lambda: digest(), lambda: digest(file), lambda: digest(file, "blake2b", KEY),
                      lambda: digest(file, "blake2b", _bufsize=9), lambda: digest(file, "blake2b", key="text"),
@@ -171,10 +172,10 @@ class Refusals(Test):
         self.assertEqual(file.sizes, [])  # nothing was read
 
 
-class Trees(Test):
+class TreeRootFileTest(Test):
     """Roots of files of all kinds."""
 
-    def test_regular_files(self):
+    def test_roots_of_regular_files(self):
         """By their paths, and by a descriptor, which keeps its position. From 256 KiB on a file is for threads. Four
         leaves of 4 MiB are as many bytes as a buffer may have, and a longer leaf is read in pieces. The progress is
         that of the caller's thread, in parts of 1 MiB by one thread."""
@@ -207,7 +208,7 @@ class Trees(Test):
         for data, step, threads in ((b"", 1, 0), (b"abc", 1, 1), (DATA[:100_000], 999, 3), (DATA[:8 * MIB], 1 << 16, 1),
                                     (DATA, 1 << 16, 3)):
             (reader, writer), seen = os.pipe(), []
-            with by_threads(1, write):
+            with running_in_threads(1, write):
                 found = vulfsjor.tree_root_file(reader, 1 << 14, threads=threads, progress=seen.append)
             os.close(reader)  # it is still open
             self.assertEqual((found, seen[-1]), (oracle.tree_root(data, 1 << 14), len(data)))
@@ -217,7 +218,7 @@ class Trees(Test):
         with subprocess.Popen(["sh", "-c", f"printf abc >'{name}'"]):
             self.assertEqual(vulfsjor.tree_root_file(name, 2), oracle.tree_root(b"abc", 2))
 
-    def test_files_of_the_system(self):
+    def test_roots_of_proc_and_sys_files(self):
         """The first reports no bytes, the last 4,096, more than it has."""
         for name in ("/proc/version", "/dev/null", "/sys/kernel/mm/transparent_hugepage/enabled"):
             if os.path.exists(name):
@@ -227,7 +228,7 @@ class Trees(Test):
                     file.seek(0)
                     self.assertEqual(vulfsjor.tree_root_file(file.fileno(), 10), wanted)
 
-    def test_sparse_and_growing_files(self):
+    def test_roots_of_sparse_and_growing_files(self):
         path = self.file(length=5 * MIB + 3)
         wanted = oracle.tree_root(bytes(5 * MIB + 3), 1 << 16)
         for threads in (1, 4):
@@ -239,7 +240,7 @@ class Trees(Test):
 
         self.assertEqual(vulfsjor.tree_root_file(path, 1 << 16, threads=4, progress=grow), wanted)
 
-    def test_memory_of_a_file_in_order(self):
+    def test_buffer_size_for_one_thread(self):
         """The buffer is as long as eight leaves, and has 4 to 16 MiB."""
         for leaf_size, wanted in ((1, 4), (MIB, 8), (2 * MIB, 16), (2**32 - 1, 16)):
             tracemalloc.start()
@@ -251,18 +252,18 @@ class Trees(Test):
             self.assertLess(abs(peak - wanted * MIB), MIB // 4)
 
 
-class TreeRefusals(Test):
+class TreeRootFileRefusalsTest(Test):
     """Errors of roots, each with the path."""
 
     @unittest.skipUnless(os.path.isdir("/dev/shm"), "no /dev/shm")
-    def test_no_descriptor(self):
+    def test_bool_and_file_are_no_descriptor(self):
         """A bool is no file descriptor, and neither is an open file."""
         for wrong in (True, False):
-            self.refuses(TypeError, "path must be a path or a file descriptor, not a bool", vulfsjor.tree_root_file,
-                         wrong, 4096)
+            self.assert_refuses(TypeError, "path must be a path or a file descriptor, not a bool",
+                                vulfsjor.tree_root_file, wrong, 4096)
         self.assertRaises(TypeError, vulfsjor.tree_root_file, io.BytesIO(b"abc"), 4096)
 
-    def test_a_file_of_2_to_the_58(self):
+    def test_file_of_2_to_58_bytes_is_refused(self):
         """On a file system in memory that has such lengths. A byte less is not refused: the callback is called."""
         with tempfile.NamedTemporaryFile(dir="/dev/shm") as file:
             for length, wanted in ((2**58, OverflowError), (2**58 - 1, LookupError)):
@@ -271,7 +272,7 @@ class TreeRefusals(Test):
                     self.assertRaises(wanted, vulfsjor.tree_root_file, file.name, 2**32 - 1, threads=threads,
                                       progress=mock.Mock(side_effect=LookupError))
 
-    def test_files_that_shrink(self):
+    def test_file_that_shrinks_is_an_error(self):
         text = "[Errno 5] the file became shorter while it was read: {!r}"
         for threads in (1, 2):
             for end in (0, MIB, 40 * MIB, 64 * MIB - 5):
@@ -282,7 +283,7 @@ class TreeRefusals(Test):
                 self.assertEqual(str(caught.exception), text.format(path))
                 self.assertEqual((caught.exception.errno, caught.exception.filename), (errno.EIO, path))
 
-    def test_refusals(self):
+    def test_errors_name_the_path(self):
         root, absent = vulfsjor.tree_root_file, os.path.join(self.folder, "absent")
         for kind, text, path, leaf_size, words in (
                 (FileNotFoundError, f"[Errno 2] No such file or directory: {absent!r}", absent, 1, {}),
@@ -293,21 +294,21 @@ class TreeRefusals(Test):
                 (TypeError, "progress must be callable", absent, 1, {"progress": 5}),
                 (ValueError, "leaf_size must be between 1 and 4294967295", absent, 0, {}),
                 (ValueError, "threads must be 0 or more", absent, 1, {"threads": -1})):
-            self.refuses(kind, text, root, path, leaf_size, **words)
+            self.assert_refuses(kind, text, root, path, leaf_size, **words)
         for path in (None, [], object()):
             self.assertRaises(TypeError, root, path, 1)
         for length in (3, MIB):
             with open(self.file(length=length), "ab") as file:
                 for threads in (1, 3):
-                    self.refuses(OSError, f"[Errno 9] Bad file descriptor: {file.fileno()}", root, file.fileno(), 1,
-                                 threads=threads)
+                    self.assert_refuses(OSError, f"[Errno 9] Bad file descriptor: {file.fileno()}", root, file.fileno(),
+                                        1, threads=threads)
         reader, writer = os.pipe()
         fcntl.fcntl(reader, fcntl.F_SETFL, os.O_NONBLOCK)
-        self.refuses(BlockingIOError, f"[Errno 11] Resource temporarily unavailable: {reader}", root, reader, 1)
+        self.assert_refuses(BlockingIOError, f"[Errno 11] Resource temporarily unavailable: {reader}", root, reader, 1)
         os.close(reader)
         os.close(writer)
 
-    def test_short_reads_and_errors(self):
+    def test_short_and_failing_reads(self):
         class File(io.FileIO):
             """A file that is read in short pieces, and may fail after the first."""
             fails = False
@@ -321,9 +322,9 @@ class TreeRefusals(Test):
         with mock.patch.object(io, "FileIO", File):
             self.assertEqual(vulfsjor.tree_root_file(path, 1 << 14), wanted)
             with mock.patch.object(File, "fails", True):
-                self.refuses(OSError, f"[Errno 6] broken: {path!r}", vulfsjor.tree_root_file, path, 1 << 14)
+                self.assert_refuses(OSError, f"[Errno 6] broken: {path!r}", vulfsjor.tree_root_file, path, 1 << 14)
 
-    def test_changed_arguments(self):
+    def test_callback_changes_come_too_late(self):
         """What the callback changes comes too late, and what it returns is not kept."""
         length, result = 48 * MIB, object()
         path, before = self.file(length=length), sys.getrefcount(result)
@@ -342,27 +343,27 @@ class TreeRefusals(Test):
             self.assertGreater(len(seen), 1)
         self.assertEqual(sys.getrefcount(result), before)
 
-    def test_an_exception_of_the_callback_stops_all(self):
+    def test_callback_exception_ends_the_call(self):
         """In a file that would take days. Nothing is left open, and a descriptor keeps its position."""
         long, before = self.file(length=1 << 43), os.listdir("/proc/self/fd")
         for kind in (ZeroDivisionError, KeyboardInterrupt, SystemExit):
             for threads in (1, 3):
                 for leaf_size in (1 << 14, 2**32 - 1):
                     stop = mock.Mock(side_effect=kind("of the callback"))
-                    self.refuses(kind, "of the callback", vulfsjor.tree_root_file, long, leaf_size, threads=threads,
-                                 progress=stop)
-                    self.assertEqual((stop.call_count, have_ended()), (1, True))
+                    self.assert_refuses(kind, "of the callback", vulfsjor.tree_root_file, long, leaf_size,
+                                        threads=threads, progress=stop)
+                    self.assertEqual((stop.call_count, have_hashing_threads_ended()), (1, True))
         full = mock.Mock(side_effect=OSError(errno.ENOSPC, "full"))
         for data in (b"short", DATA):
             with open(self.file(data), "rb", buffering=0) as file:
                 file.seek(777)
                 for path, threads in itertools.product((file.fileno(), file.name), (1, 3)):
-                    self.refuses(OSError, "[Errno 28] full", vulfsjor.tree_root_file, path, 1 << 14, threads=threads,
-                                 progress=full)
+                    self.assert_refuses(OSError, "[Errno 28] full", vulfsjor.tree_root_file, path, 1 << 14,
+                                        threads=threads, progress=full)
                 self.assertEqual(file.tell(), 777)
         vulfsjor.tree_root_file(self.file(DATA), 1 << 14, threads=2)
         self.assertRaises(OSError, vulfsjor.tree_root_file, self.folder, 1)
-        self.assertEqual((os.listdir("/proc/self/fd"), have_ended()), (before, True))
+        self.assertEqual((os.listdir("/proc/self/fd"), have_hashing_threads_ended()), (before, True))
 
 
 if __name__ == "__main__":

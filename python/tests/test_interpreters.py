@@ -21,7 +21,7 @@ print(sys.executable, *sys.version_info[:2], bool(sysconfig.get_config_var("Py_G
 
 
 @functools.cache
-def interpreters():
+def interpreters_by_version():
     """The path of an interpreter of each version, by the version and whether it has no GIL."""
     names = [sys.executable, *os.environ.get("PYTHONS", "").split(),
              *(f"python3.{minor}{end}" for minor in range(11, 20) for end in ("", "t")),
@@ -38,45 +38,45 @@ def interpreters():
     return found
 
 
-class Interpreters(unittest.TestCase):
+class InterpretersTest(unittest.TestCase):
     """Each interpreter that is found."""
 
-    def succeeds(self, *words, **environment):
+    def assert_succeeds(self, *words, **environment):
         done = run(*words, env={**os.environ, "PYTHONWARNINGS": "error::RuntimeWarning",
                                 **environment})
         self.assertEqual(done.returncode, 0, done.stdout)
 
-    def test_subinterpreters(self):
+    def test_subinterpreters_share_the_module(self):
         """One module, in each version."""
-        for version, python in interpreters().items():
+        for version, python in interpreters_by_version().items():
             if not version[2]:
                 with self.subTest(python=python):
-                    self.succeeds(python, os.path.join(HERE, "in_subinterpreters.py"), FOLDER)
-        if max(interpreters()) < (3, 12):
+                    self.assert_succeeds(python, os.path.join(HERE, "in_subinterpreters.py"), FOLDER)
+        if max(interpreters_by_version()) < (3, 12):
             self.skipTest("no CPython 3.12 or later, whose subinterpreters have a GIL each")
 
     @long
-    def test_other_versions(self):
+    def test_each_version_is_as_hashlib(self):
         """The same module returns what hashlib does in each version."""
-        for version, python in interpreters().items():
+        for version, python in interpreters_by_version().items():
             if not version[2] and version[:2] != sys.version_info[:2]:
                 for file in FILES:
                     with self.subTest(python=python, file=file):
-                        self.succeeds(python, "-m", "unittest", "discover", HERE, file, VULFSJOR_PACKAGE=FOLDER)
+                        self.assert_succeeds(python, "-m", "unittest", "discover", HERE, file, VULFSJOR_PACKAGE=FOLDER)
 
-    def test_without_the_gil(self):
+    def test_gil_stays_off_without_it(self):
         """The module is built for that Python, leaves the GIL off, and passes the tests."""
-        found = [python for version, python in interpreters().items() if version[2]]
+        found = [python for version, python in interpreters_by_version().items() if version[2]]
         if not found:
             self.skipTest("no CPython without the GIL")
         for python in found:
             with self.subTest(python=python), tempfile.TemporaryDirectory() as folder:
                 self.assertRegex(support.build(folder, python), r"-cp(3\d+)-cp\1t-linux_\w+\.whl\n\Z")
-                self.succeeds(python, "-c", f"import sys; sys.path.insert(0, {folder!r}); "
-                              "import vulfsjor; assert not sys._is_gil_enabled()")
-                self.succeeds(python, os.path.join(HERE, "in_subinterpreters.py"), folder)
+                self.assert_succeeds(python, "-c", f"import sys; sys.path.insert(0, {folder!r}); "
+                                     "import vulfsjor; assert not sys._is_gil_enabled()")
+                self.assert_succeeds(python, os.path.join(HERE, "in_subinterpreters.py"), folder)
                 for file in (*FILES, "test_api.py"):
-                    self.succeeds(python, "-m", "unittest", "discover", HERE, file, VULFSJOR_PACKAGE=folder)
+                    self.assert_succeeds(python, "-m", "unittest", "discover", HERE, file, VULFSJOR_PACKAGE=folder)
 
 
 if __name__ == "__main__":

@@ -14,11 +14,11 @@ import unittest
 import warnings
 
 from families import FAMILIES, OUTPUTS
-from support import FOLDER, HERE, IS_CLONE, Test, absent, run
+from support import FOLDER, HERE, IS_CLONE, Test, why_absent, run
 import vulfsjor
 
 
-class Words(unittest.TestCase):
+class NamesAndPagesTest(unittest.TestCase):
     """The names and pages of the package."""
 
     def found(self, path, pattern):
@@ -28,7 +28,7 @@ class Words(unittest.TestCase):
         self.assertTrue(found, pattern)
         return found[1] if found.re.groups == 1 else found.groups()
 
-    def test_numbers_of_the_page(self):
+    def test_numbers_in_readme_are_right(self):
         """The version, and the README's numbers that no example prints. test_build.py has those of glibc and of
         processors."""
         self.assertEqual(self.found("pyproject.toml", r' version = "(.*?)"'), vulfsjor.__version__)
@@ -50,7 +50,7 @@ class Words(unittest.TestCase):
         self.found("../c/threads.c" if IS_CLONE else "src/threads.c",
                    r"(#define LEAST_BYTES \(1 << 18\) .* MOST_THREADS = 256,)")
 
-    def test_numbers_of_doc_comments(self):
+    def test_numbers_in_doc_comments_are_right(self):
         for thing, *parts in (
                 (vulfsjor.tree_root_file, "buffer of up to 16 MiB"),
                 (vulfsjor.tree_root, "less than 256 KiB for each", "at most 256; 0 is"),
@@ -71,7 +71,7 @@ class Words(unittest.TestCase):
             for each in (make, getattr(vulfsjor, f"{name}_mac")):
                 self.assertEqual(f"the BLAKE2 document gives BLAKE{name[5:]} neither." in each.__doc__, name[7:] == "p")
 
-    def test_all_is_documented(self):
+    def test_every_public_name_has_a_doc(self):
         self.assertTrue(vulfsjor.__doc__)
         self.assertEqual(set(vulfsjor.__all__), {
             name for name, thing in vars(vulfsjor).items() if callable(thing) and name[0] != "_"})
@@ -82,7 +82,7 @@ class Words(unittest.TestCase):
                 if member.islower() and not member.startswith("_") and member not in dir(ValueError):
                     self.assertTrue(getattr(thing, member).__doc__, member)
 
-    def test_examples(self):
+    def test_doctest_examples_pass(self):
         failed, tried = doctest.testmod(vulfsjor, verbose=False)
         self.assertEqual((failed, tried > 4), (0, True))
         page = os.path.join(HERE, "..", "README.md")
@@ -155,7 +155,7 @@ RESULTS = {
         "_root_of_file('', os.open('/dev/null', os.O_RDONLY), 0, 1, None)": "bytes"}.items()},
 }
 # What a type checker has to refuse, and the package does: among it arguments by position that have only names.
-# test_stub has the types of parameters, and test_refusals.py has their values that are refused.
+# test_stub_is_as_the_module has the types of parameters, and test_refusals.py has their values that are refused.
 REFUSED = (
     "vulfsjor.blake2b(b'', b'key')", "vulfsjor.blake2s(data=b'')", "vulfsjor.blake2s().update('text')",
     "vulfsjor.blake2b_mac()", "vulfsjor.blake2s_mac(b'key', b'', 16)", "vulfsjor.blake2bp_mac(b'', key=b'key')",
@@ -204,10 +204,10 @@ NAMED = {
 }
 
 
-class Results(unittest.TestCase):
+class TypesTest(unittest.TestCase):
     """The types of values."""
 
-    def test_results(self):
+    def test_types_of_results(self):
         warnings.simplefilter("ignore", ResourceWarning)  # of files that nothing closes
         for expression, kind in RESULTS.items():
             value = eval(expression)  # pylint: disable=eval-used
@@ -217,12 +217,12 @@ class Results(unittest.TestCase):
             if kind == "list[bytes]":
                 self.assertEqual({type(each) for each in value}, {bytes})
 
-    def test_refusals(self):
+    def test_types_of_refused_calls(self):
         for expression in REFUSED:
             with self.assertRaises(TypeError, msg=expression):
                 eval(expression)  # pylint: disable=eval-used
 
-    def test_stub(self):
+    def test_stub_is_as_the_module(self):
         """The stub, which runs as a module, has the names, parameters and defaults of the module, and these types."""
         with open(STUB, encoding="utf-8") as file:
             text = re.sub("^from _typeshed .*", "", file.read(), flags=re.MULTILINE)
@@ -233,29 +233,29 @@ class Results(unittest.TestCase):
         self.assertEqual(things | set(stub.__annotations__),
                          {"__build__", "__version__", *(name for name in dir(library) if name[0] != "_")})
         for name in things:
-            self.same_texts(getattr(stub, name), getattr(library, name))
+            self.assert_same_doc_comments(getattr(stub, name), getattr(library, name))
         for name in things - {"InvalidTag"}:
             ours, theirs = getattr(stub, name), getattr(library, name)
             if not isinstance(theirs, type):
-                self.same_parameters(ours, theirs)
+                self.assert_stub_matches_module(ours, theirs)
                 continue
             members = {member for member in dir(theirs) if member[0] != "_"}
             self.assertEqual({member for each in ours.__mro__[:-1]
                               for member in (*vars(each), *vars(each).get("__annotations__", ()))
                               if member[0] != "_"}, members)
             self.assertEqual(hasattr(ours, "__final__"), name != "TreeHasher", name)
-            self.same_parameters(ours.__new__, theirs)
+            self.assert_stub_matches_module(ours.__new__, theirs)
             for member in filter(lambda member: callable(getattr(theirs, member)), members):
-                self.same_parameters(getattr(ours, member), getattr(theirs, member))
+                self.assert_stub_matches_module(getattr(ours, member), getattr(theirs, member))
             for member in filter(lambda member: member.islower(), members):
-                self.same_texts(getattr(ours, member), getattr(theirs, member))
+                self.assert_same_doc_comments(getattr(ours, member), getattr(theirs, member))
 
-    def same_texts(self, ours, theirs):
+    def assert_same_doc_comments(self, ours, theirs):
         """The doc comments, of which editors show those of the stub."""
         self.assertTrue(theirs.__doc__, theirs)
         self.assertEqual(inspect.getdoc(ours), inspect.getdoc(theirs), ours)
 
-    def same_parameters(self, ours, theirs):
+    def assert_stub_matches_module(self, ours, theirs):
         """The parameters of a function of the stub and of the module, and the types of the first."""
         mine, wanted = ([(each.name, each.kind, each.default) for each in inspect.signature(it).parameters.values()
                          if each.name not in ("self", "cls")] for it in (ours, theirs))
@@ -265,11 +265,11 @@ class Results(unittest.TestCase):
             self.assertEqual(ours.__annotations__[name], NAMED[name] + optional, ours)
 
 
-@unittest.skipIf(absent(tools=["mypy"]), "no mypy")
-class Mypy(Test):
+@unittest.skipIf(why_absent(tools=["mypy"]), "no mypy")
+class MypyTest(Test):
     """mypy, without its cache."""
 
-    def test_programs(self):
+    def test_mypy_finds_exactly_wrong_lines(self):
         """A program's right and wrong lines. What returns None has no value, so a line that uses it is wrong. The
         package, which the program imports, is checked too."""
         right = ["from typing import assert_type", "import functools, io, os", "import vulfsjor"]

@@ -9,7 +9,7 @@ import pickle
 import unittest
 
 from families import DATA, FAMILIES, OUTPUTS, ROOT, TEXTS
-from support import Test, unread
+from support import Test, unreadable_buffer
 import vulfsjor
 
 BEYOND = (2**64, 2**64 + 1, 2**70, -1, -(2**70))  # what no 64 bits hold
@@ -24,42 +24,43 @@ BOUNDARY, TOO_FAR = "the hasher is not at a leaf boundary", "the data ends at 2^
 
 # What is refused as a parameter: exceptions, their texts, and the values.
 
-def numbers(name, least, most):
+def wrong_numbers(name, least, most):
     """A number from least to most."""
     return (*((ValueError, f"{name} must be between {least} and {most}", wrong)
               for wrong in (least - 1, most + 1, most + 2, *BEYOND)),
             *((TypeError, f"{name} must be an integer", wrong) for wrong in (1.0, "1", True)))
 
 
-def sizes(most):
+def wrong_digest_sizes(most):
     """A digest_size. A tag of True bytes would be one that a few hundred tries forge."""
     return (*((ValueError, f"digest_size must be between 1 and {most} bytes", wrong)
               for wrong in (0, most + 1, 2**31, 2**32 + 1, 2**32 + 16, -(2**32) + 16, *BEYOND)),
             (TypeError, "digest_size must be an integer", True), *NO_NUMBERS)
 
 
-def texts(name, most):
+def wrong_texts(name, most):
     """A salt or a person, or a key that may be empty."""
-    return (*((ValueError, f"maximum {name} length is {most} bytes", unread(length))
+    return (*((ValueError, f"maximum {name} length is {most} bytes", unreadable_buffer(length))
               for length in (most + 1, 1000, 2**31, 2**32, 2**32 + 8)), NO_TEXT)
 
 
-def keys(most):
+def wrong_keys(most):
     """A key that may not be empty."""
     return (*((ValueError, f"key must have between 1 and {most} bytes", wrong)
-              for wrong in (b"", bytearray(), memoryview(b""), *map(unread, (most + 1, 5000, 2**32, 2**32 + 8)))),
+              for wrong in (b"", bytearray(), memoryview(b""),
+                            *map(unreadable_buffer, (most + 1, 5000, 2**32, 2**32 + 8)))),
             NO_TEXT, NOT_CONTIGUOUS)
 
 
-LEAF_SIZES = numbers("leaf_size", 1, 2**32 - 1)
+LEAF_SIZES = wrong_numbers("leaf_size", 1, 2**32 - 1)
 THREADS = (*((ValueError, "threads must be 0 or more", wrong) for wrong in (-1, -(2**63), -(2**64) + 1, -(2**70))),
            *NO_NUMBERS)
 
 
-class Parameters(Test):
+class WrongParametersTest(Test):
     """Each call with each wrong value of each of its parameters."""
 
-    def tries(self, call, given, **wrong):
+    def try_wrong_values(self, call, given, **wrong):
         """The call needs all of some arguments and accepts no others. It refuses each wrong one instead of the right
         one."""
         call(**given)
@@ -68,56 +69,57 @@ class Parameters(Test):
         self.assertRaises(TypeError, call, **given, other=1)
         for name, rows in wrong.items():
             for kind, text, value in rows:
-                self.refuses(kind, text, call, **{**given, name: value})
+                self.assert_refuses(kind, text, call, **{**given, name: value})
 
-    def test_hashes(self):
+    def test_wrong_parameters_of_hashes(self):
         for name, make, _, many, longest in FAMILIES:
-            few = {name: texts(name, longest // 4) for name in TEXTS}
-            self.tries(make, {}, key=texts("key", longest), **few)
-            self.tries(getattr(vulfsjor, f"{name}_mac"), {"key": b"k"}, key=keys(longest), digest_size=sizes(longest),
-                       data=NOT_BYTES, **few)
+            few = {name: wrong_texts(name, longest // 4) for name in TEXTS}
+            self.try_wrong_values(make, {}, key=wrong_texts("key", longest), **few)
+            self.try_wrong_values(getattr(vulfsjor, f"{name}_mac"), {"key": b"k"}, key=wrong_keys(longest),
+                                  digest_size=wrong_digest_sizes(longest), data=NOT_BYTES, **few)
             for messages in ([], [b"x"]) if many else ():
-                self.tries(partial(many, messages), {}, digest_size=sizes(longest), key=texts("key", longest), **few)
+                self.try_wrong_values(partial(many, messages), {}, digest_size=wrong_digest_sizes(longest),
+                                      key=wrong_texts("key", longest), **few)
 
-    def test_outputs(self):
-        self.tries(vulfsjor.derive_key, {"key": b"k", "context": b"", "length": 1}, key=keys(64), context=[NO_TEXT],
-                   length=numbers("length", 1, 2**32 - 2))
+    def test_wrong_parameters_of_outputs(self):
+        self.try_wrong_values(vulfsjor.derive_key, {"key": b"k", "context": b"", "length": 1}, key=wrong_keys(64),
+                              context=[NO_TEXT], length=wrong_numbers("length", 1, 2**32 - 2))
         for _, make, longest, most in OUTPUTS:
-            self.tries(make, {}, length=numbers("length", 1, most), key=texts("key", longest),
-                       **{name: texts(name, longest // 4) for name in TEXTS})
+            self.try_wrong_values(make, {}, length=wrong_numbers("length", 1, most), key=wrong_texts("key", longest),
+                                  **{name: wrong_texts(name, longest // 4) for name in TEXTS})
             for output, left in ((make(length=9), 9), (make(), longest << 32)):
-                for kind, text, wrong in numbers("length", 0, left):
+                for kind, text, wrong in wrong_numbers("length", 0, left):
                     for call in (output.digest, output.hexdigest):
-                        self.refuses(kind, text, call, wrong)
+                        self.assert_refuses(kind, text, call, wrong)
 
-    def test_trees(self):
+    def test_wrong_parameters_of_trees(self):
         def updated(threads=1):
             hasher = vulfsjor.TreeHasher(1 << 14)
             hasher.update(DATA, threads=threads)
             return hasher.digest()
 
         path = self.file(DATA)
-        every = {"leaf_size": LEAF_SIZES, **{name: texts(name, 16) for name in TEXTS}}
+        every = {"leaf_size": LEAF_SIZES, **{name: wrong_texts(name, 16) for name in TEXTS}}
         for call in (vulfsjor.TreeHasher, partial(vulfsjor.tree_root, b"x"),
                      partial(vulfsjor.tree_root, DATA, threads=3), partial(vulfsjor.tree_root_file, path, threads=3),
                      partial(vulfsjor.tree_root_file, path, threads=1),
                      partial(vulfsjor.tree_root_of_leaves, bytes(64))):
-            self.tries(call, {"leaf_size": 1 << 16}, digest_size=sizes(64), **every)
-        self.tries(partial(vulfsjor.tree_leaves, b"x", first=0, ends=True), {"leaf_size": 1 << 16}, **every)
-        self.tries(vulfsjor.tree_leaf_count, {"length": 0, "leaf_size": 5}, leaf_size=LEAF_SIZES,
-                   length=numbers("length", 0, 2**64 - 1))
+            self.try_wrong_values(call, {"leaf_size": 1 << 16}, digest_size=wrong_digest_sizes(64), **every)
+        self.try_wrong_values(partial(vulfsjor.tree_leaves, b"x", first=0, ends=True), {"leaf_size": 1 << 16}, **every)
+        self.try_wrong_values(vulfsjor.tree_leaf_count, {"length": 0, "leaf_size": 5}, leaf_size=LEAF_SIZES,
+                              length=wrong_numbers("length", 0, 2**64 - 1))
         index = type("Index", (), {"__index__": lambda self: 2})()
         for call in (partial(vulfsjor.tree_root, DATA, 1 << 14), partial(vulfsjor.tree_root_file, path, 1 << 14),
                      updated):
-            self.tries(call, {}, threads=THREADS)
+            self.try_wrong_values(call, {}, threads=THREADS)
             for threads in (0, 1, 7, 2**63, 2**64 + 1, 2**70, True, index):
                 self.assertEqual(call(threads=threads), ROOT)
 
 
-class Verify(Test):
+class VerifyRefusalsTest(Test):
     """The comparison of tags. test_conformance.py has right ones, and that a check does not end the run."""
 
-    def test_tags(self):
+    def test_wrong_tags_are_refused(self):
         """Among them one that is right but for what follows it, at 2^32 bytes."""
         data = mmap.mmap(-1, 2**32 + 64)
         view, key = memoryview(data), bytes(range(1, 33))
@@ -132,7 +134,7 @@ class Verify(Test):
                         *((TypeError, "the tag must be bytes, as digest() returns, not a string", wrong)
                           for wrong in (tag.hex(), "")), *NOT_BYTES[1:],
                         *((*NOT_BYTES[1][:2], wrong) for wrong in (1, list(tag), mac))):
-                    self.refuses(kind, text, mac.verify, wrong)
+                    self.assert_refuses(kind, text, mac.verify, wrong)
 
     def test_a_hash_without_a_key_is_refused(self):
         """Whatever the tag is, and its type."""
@@ -140,9 +142,9 @@ class Verify(Test):
         for _, make, *_ in FAMILIES:
             for plain in (make(b"message"), make(key=b""), make(salt=b"s"), make().copy()):
                 for tag in (plain.digest(), b"", b"wrong", "text", None):
-                    self.refuses(ValueError, text, plain.verify, tag)
+                    self.assert_refuses(ValueError, text, plain.verify, tag)
 
-    def test_short_tags(self):
+    def test_short_tags_need_allow_short(self):
         """A MAC has at least 16 bytes, unless its maker says otherwise; and a hash with a key verifies none that is
         shorter."""
         for name, make, wanted, _, longest in FAMILIES:
@@ -154,23 +156,24 @@ class Verify(Test):
                          mac(b"key", b"m", digest_size=size, allow_short=False)) if size >= 16 else ())):
                     self.assertIsNone(made.copy().verify(tag))
                     self.assertEqual(made.digest(), tag)
-                    self.refuses(vulfsjor.InvalidTag, "the tag is not that of the message", made.verify, tag[:-1])
+                    self.assert_refuses(vulfsjor.InvalidTag, "the tag is not that of the message", made.verify,
+                                        tag[:-1])
                 if size < 16:
                     text = f"digest_size must be between 16 and {longest} bytes, or allow_short be True"
-                    self.refuses(ValueError, text, mac, b"key", digest_size=size)
-                    self.refuses(ValueError, text, mac, b"key", digest_size=size, allow_short=False)
+                    self.assert_refuses(ValueError, text, mac, b"key", digest_size=size)
+                    self.assert_refuses(ValueError, text, mac, b"key", digest_size=size, allow_short=False)
                     text = "verify needs a digest_size of at least 16: make an object for shorter tags by " \
                            "blake2b_mac and its like, with allow_short=True"
                     made = make(b"m", key=b"key", digest_size=size)
-                    self.refuses(ValueError, text, made.copy().verify, tag)
+                    self.assert_refuses(ValueError, text, made.copy().verify, tag)
                     self.assertEqual(made.digest(), tag)
             for size in (0, longest + 1):
-                self.refuses(ValueError, f"digest_size must be between 1 and {longest} bytes", mac, b"key",
-                             digest_size=size, allow_short=True)
+                self.assert_refuses(ValueError, f"digest_size must be between 1 and {longest} bytes", mac, b"key",
+                                    digest_size=size, allow_short=True)
             for wrong in (1, 0, None, "no", b""):
-                self.refuses(TypeError, "allow_short must be True or False", mac, b"key", allow_short=wrong)
+                self.assert_refuses(TypeError, "allow_short must be True or False", mac, b"key", allow_short=wrong)
 
-    def test_the_exception(self):
+    def test_invalid_tag_is_a_value_error(self):
         """It is a ValueError, and comes whole out of another process."""
         self.assertEqual(vulfsjor.InvalidTag.__mro__[1:3], (ValueError, Exception))
         self.assertEqual((vulfsjor.InvalidTag.__module__, vulfsjor.InvalidTag.__qualname__),
@@ -181,10 +184,10 @@ class Verify(Test):
         self.assertEqual((type(again), again.args), (vulfsjor.InvalidTag, caught.exception.args))
 
 
-class Saved(Test):
+class SavedStatesTest(Test):
     """States that are saved and loaded. test_conformance.py has the bytes that are refused."""
 
-    def test_refusals(self):
+    def test_keyed_and_wrong_states_are_refused(self):
         key = "an object with a key is not saved: the bytes would be as good as the key"
         text = "the saved state must be bytes, as save() returns, not a string"
         for name, make, *_, longest in FAMILIES:
@@ -194,17 +197,17 @@ class Saved(Test):
             if name[-1] == "p":
                 continue
             for keyed in (make(key=b"k"), make(b"message", key=bytes(longest)).copy()):
-                self.refuses(ValueError, key, keyed.save)
-            self.refuses(TypeError, text, make.load, make().save().hex())
+                self.assert_refuses(ValueError, key, keyed.save)
+            self.assert_refuses(TypeError, text, make.load, make().save().hex())
             for kind, why, wrong in NOT_BYTES[1:]:
-                self.refuses(kind, why, make.load, wrong)
+                self.assert_refuses(kind, why, make.load, wrong)
             saved = ctypes.create_string_buffer(make().save(), len(make().save()))
             longer = (ctypes.c_char * (2**32 + len(saved))).from_address(ctypes.addressof(saved))
             self.assertEqual(make.load(saved).digest(), make().digest())
-            for wrong in (b"", saved.raw[:-1], saved.raw + b"\0", longer, unread(2**57)):
-                self.refuses(ValueError, f"not a saved state of {name}", make.load, wrong)
+            for wrong in (b"", saved.raw[:-1], saved.raw + b"\0", longer, unreadable_buffer(2**57)):
+                self.assert_refuses(ValueError, f"not a saved state of {name}", make.load, wrong)
 
-    def test_loaded_objects(self):
+    def test_loaded_object_goes_on_alone(self):
         """An object is as the one that was saved, and goes on alone."""
         for name, make, _, _, longest in FAMILIES[:2]:
             for size in (1, 5, longest):
@@ -217,10 +220,11 @@ class Saved(Test):
                 self.assertEqual((one.save(), make.load(memoryview(saved)).digest()), (saved, one.digest()))
                 one.update(b"more")
                 self.assertEqual((one.digest(), one.save()), (other.digest(), other.copy().save()))
-                self.refuses(ValueError, "verify needs a key: compare digests without one with hmac.compare_digest",
-                             other.verify, other.digest())
+                self.assert_refuses(ValueError,
+                                    "verify needs a key: compare digests without one with hmac.compare_digest",
+                                    other.verify, other.digest())
 
-    def test_pickle(self):
+    def test_pickle_error_names_save(self):
         """The error says what is pickled instead, if there is something."""
         for name, make, *_ in FAMILIES:
             for made in (make(), make(key=b"k"), getattr(vulfsjor, f"{name}_mac")(b"k")):
@@ -228,43 +232,44 @@ class Saved(Test):
                 text = f"cannot pickle 'vulfsjor.{type(made).__name__}' object" + is_saved * (
                     ": pickle what its method save returns")
                 for call in (pickle.dumps, copy.copy, copy.deepcopy):
-                    self.refuses(TypeError, text, call, made)
+                    self.assert_refuses(TypeError, text, call, made)
             if hasattr(make, "save"):
                 again = make.load(pickle.loads(pickle.dumps(make(b"x").save())))
                 self.assertEqual(again.digest(), make(b"x").digest())
 
 
-class Parts(Test):
+class LeafRangesTest(Test):
     """Ranges of leaves, and roots of these."""
 
-    def test_ranges(self):
+    def test_wrong_leaf_ranges_are_refused(self):
         whole = "data must be whole leaves, unless it ends the message"
         empty, flag = "data must not be empty, unless it is all of an empty message", "ends must be True or False"
         for kind, text, data, leaf_size, first, ends in (
-                *((ValueError, whole, unread(length), 10, 0, False) for length in (9, 11, 2**32, 2**32 + 10)),
+                *((ValueError, whole, unreadable_buffer(length), 10, 0, False)
+                  for length in (9, 11, 2**32, 2**32 + 10)),
                 *((ValueError, empty, b"", 10, *where) for where in ((0, False), (1, True), (2**54, True))),
                 (ValueError, TOO_FAR, b"x", 1, 2**58 - 1, True), (ValueError, TOO_FAR, b"xy", 1, 2**58 - 2, True),
                 (ValueError, TOO_FAR, bytes(1024), 1024, 2**48 - 1, True),
-                (ValueError, TOO_FAR, unread(2**32 + 64), 1 << 31, 2**27 - 1, True),
-                (MemoryError, "", unread(2**57), 1, 0, True),
+                (ValueError, TOO_FAR, unreadable_buffer(2**32 + 64), 1 << 31, 2**27 - 1, True),
+                (MemoryError, "", unreadable_buffer(2**57), 1, 0, True),
                 *((kind, text, b"x", leaf_size, first, True)
                   for leaf_size, last in ((1, 2**58 - 1), (1024, 2**48 - 1), (2**32 - 1, 2**26))
-                  for kind, text, first in numbers("first", 0, last)),
+                  for kind, text, first in wrong_numbers("first", 0, last)),
                 *((TypeError, flag, b"x", 1, 0, ends)
                   for ends in (2, 5, -1, 2**63, 2**64, 2**64 + 1, None, "False", b"", 1.0, [True])),
                 *((kind, text, data, 1, 0, True) for kind, text, data in NOT_BYTES)):
-            self.refuses(kind, text, vulfsjor.tree_leaves, data, leaf_size, first=first, ends=ends)
+            self.assert_refuses(kind, text, vulfsjor.tree_leaves, data, leaf_size, first=first, ends=ends)
         for words in ({}, {"first": 0}, {"ends": True}):
-            self.refuses(TypeError, "tree_leaves() requires the keyword arguments first and ends",
-                         vulfsjor.tree_leaves, b"x", 1, **words)
+            self.assert_refuses(TypeError, "tree_leaves() requires the keyword arguments first and ends",
+                                vulfsjor.tree_leaves, b"x", 1, **words)
 
-    def test_digests(self):
+    def test_wrong_leaf_digests_are_refused(self):
         many = "digests must have 64 bytes for each leaf, and at least one leaf"
-        for kind, text, data in (*((ValueError, many, unread(length)) for length in (
+        for kind, text, data in (*((ValueError, many, unreadable_buffer(length)) for length in (
                 0, 1, 63, 65, 2**32 + 1, 2**32 + 32, 2**32 + 63)), *NOT_BYTES):
-            self.refuses(kind, text, vulfsjor.tree_root_of_leaves, data, 1)
+            self.assert_refuses(kind, text, vulfsjor.tree_root_of_leaves, data, 1)
 
-    def test_what_is_a_number(self):
+    def test_leaf_counts_and_ends_flag(self):
         """A count of leaves, and the flag `ends`."""
         for leaf_size in (1, 2, 64, 2**32 - 1):
             for length in (0, 1, leaf_size - 1, leaf_size, leaf_size + 1, 5 * leaf_size, 2**64 - 1):
@@ -273,40 +278,43 @@ class Parts(Test):
             self.assertEqual(*(vulfsjor.tree_leaves(b"x", 1, first=0, ends=each) for each in (ends, bool(ends))))
 
 
-class Hasher(Test):
+class TreeHasherRefusalsTest(Test):
     """A hasher, which no refused call changes."""
 
-    def test_what_it_refuses(self):
+    def test_refused_calls_change_no_hasher(self):
         most = (2**58 - 1) // 100
         for count in (0, 1, 100, 101):
             hasher = vulfsjor.TreeHasher(100)
             hasher.update(bytes(count))
             before, ahead, update = hasher.digest(), hasher.leaves_ahead, hasher.update_leaves
-            rows = [(ValueError, "data must be whole leaves, at least one", ahead, unread(n))
+            rows = [(ValueError, "data must be whole leaves, at least one", ahead, unreadable_buffer(n))
                     for n in (0, 99, 101, 2**32, 2**32 + 100)]
-            rows += [(ValueError, "digests must have 64 bytes for each leaf", update, unread(n), b"x")
+            rows += [(ValueError, "digests must have 64 bytes for each leaf", update, unreadable_buffer(n), b"x")
                      for n in (1, 65, 2**32 + 1, 2**32 + 63)]
-            rows += [(ValueError, "data must follow the digests, at least one byte of it", update, unread(n), b"")
+            rows += [(ValueError, "data must follow the digests, at least one byte of it", update, unreadable_buffer(n),
+                      b"")
                      for n in (64, 2**32 + 64)]
             rows += [(kind, text, call, data) for kind, text, data in NOT_BYTES for call in (
                 hasher.update, ahead, lambda data: update(data, b"x"), lambda data: update(b"", data))]
             if count % 100:
                 rows += [(ValueError, BOUNDARY, ahead, bytes(100)),
-                         *((ValueError, BOUNDARY, update, unread(n), b"x") for n in (64, 2**32 + 64))]
+                         *((ValueError, BOUNDARY, update, unreadable_buffer(n), b"x") for n in (64, 2**32 + 64))]
             else:
                 rows += [(ValueError, TOO_FAR, ahead, bytes(100), most),
-                         *((kind, text, ahead, bytes(100), skip) for kind, text, skip in numbers("skip", 0, most))]
+                         *((kind, text, ahead, bytes(100), skip)
+                           for kind, text, skip in wrong_numbers("skip", 0, most))]
             for row in rows:
-                self.refuses(*row)
+                self.assert_refuses(*row)
             for name in ("digest_size", "leaf_size", "count", "other"):
                 self.assertRaises(AttributeError, setattr, hasher, name, 1)
             update(b"", b"")
             for threads in (1, 3):
-                self.refuses(OverflowError, "2^58 bytes or more", hasher.update, unread(2**58), threads=threads)
-                self.refuses(OverflowError, "2^58 bytes or more", vulfsjor.tree_root, unread(2**58), 1 << 31,
-                             threads=threads)
+                self.assert_refuses(OverflowError, "2^58 bytes or more", hasher.update, unreadable_buffer(2**58),
+                                    threads=threads)
+                self.assert_refuses(OverflowError, "2^58 bytes or more", vulfsjor.tree_root, unreadable_buffer(2**58),
+                                    1 << 31, threads=threads)
             self.assertEqual((hasher.digest(), hasher.count), (before, count))
-        self.refuses(MemoryError, "", vulfsjor.TreeHasher(1).leaves_ahead, unread(2**57))
+        self.assert_refuses(MemoryError, "", vulfsjor.TreeHasher(1).leaves_ahead, unreadable_buffer(2**57))
 
 
 if __name__ == "__main__":

@@ -12,8 +12,8 @@ import threading
 import time
 import unittest
 
-from families import DATA, FAMILIES, MIB, OUTPUTS, PLAIN, TEXTS, have_ended, other_threads
-from support import Test, WITHOUT_GIL, by_threads
+from families import DATA, FAMILIES, MIB, OUTPUTS, PLAIN, TEXTS, have_hashing_threads_ended, count_hashing_threads
+from support import Test, WITHOUT_GIL, running_in_threads
 import oracle
 import vulfsjor
 
@@ -33,13 +33,13 @@ def update(hasher):
     hasher.update(LONG)
 
 
-def update_several(hasher):
+def update_long_of_several(hasher):
     """The same of one object of several."""
     make = type(hasher)
     vulfsjor.update_many([make(), hasher, make()], [b"x", LONG, b"y"])
 
 
-def accepts(mac, tag):
+def verify_accepts(mac, tag):
     """Whether `verify` accepts the tag."""
     with contextlib.suppress(vulfsjor.InvalidTag):
         mac.verify(tag)
@@ -47,7 +47,7 @@ def accepts(mac, tag):
     return False
 
 
-class Threads(unittest.TestCase):
+class GilReleaseTest(unittest.TestCase):
     """Other threads run during long calls. Here, threads switch only when one releases the GIL."""
 
     def setUp(self):
@@ -73,20 +73,21 @@ class Threads(unittest.TestCase):
         call()
         return self.turns - before
 
-    def let_others_run(self, *calls):
+    def assert_others_run_during(self, *calls):
         """Each, in one of fifty tries: on a busy machine the other thread may wait for a processor all the while."""
         for call in calls:
             self.assertTrue(any(self.turns_during(call) > 10 for _ in range(50)))
 
     def test_long_inputs_let_others_run(self):
         for _, make, _, many, _ in FAMILIES:
-            self.let_others_run(lambda: make().update(LONG), lambda: make(LONG), *[lambda: many([LONG])] * bool(many))
+            self.assert_others_run_during(lambda: make().update(LONG), lambda: make(LONG),
+                                          *[lambda: many([LONG])] * bool(many))
         for _, make, *_ in OUTPUTS:
-            self.let_others_run(lambda: make().update(LONG), lambda: make().digest(1 << 24),
-                                lambda: make().hexdigest(1 << 24))
+            self.assert_others_run_during(lambda: make().update(LONG), lambda: make().digest(1 << 24),
+                                          lambda: make().hexdigest(1 << 24))
         for _, make, *_ in PLAIN:
-            self.let_others_run(lambda: update_several(make()))
-        self.let_others_run(
+            self.assert_others_run_during(lambda: update_long_of_several(make()))
+        self.assert_others_run_during(
             lambda: vulfsjor.derive_key(b"key", b"", 1 << 24), lambda: vulfsjor.derive_key(b"key", LONG, 9),
             lambda: vulfsjor.file_digest(io.BytesIO(LONG), "blake2b"),
             lambda: vulfsjor.TreeHasher(4096).update_leaves(LONG, b"x"),
@@ -99,26 +100,27 @@ class Threads(unittest.TestCase):
     def test_others_wait_for_a_long_update(self):
         """A call of an object sees all of an update that is under way, at least once in a hundred
         tries: in a single try the update may not have started."""
-        several = [(update_several, make, (), lambda data, theirs=theirs: theirs(data).digest())
+        several = [(update_long_of_several, make, (), lambda data, theirs=theirs: theirs(data).digest())
                    for _, make, theirs, *_ in PLAIN]
         for work, make, size, theirs in (*((update, *kind) for kind in KINDS), *several):
             wanted = theirs(LONG)
             for call in (lambda hasher: hasher.copy().digest(*size) == wanted,
                          lambda hasher: hasher.digest(*size) == wanted,
                          *[lambda hasher: hasher.load(hasher.save()).digest() == wanted] * hasattr(make, "save")):
-                self.assertTrue(any(self.is_met(call, make(), work) for _ in range(100)))
+                self.assertTrue(any(self.result_during_update(call, make(), work) for _ in range(100)))
         for _, make, *_ in FAMILIES:
             tag = make(LONG, key=b"key").digest()  # test_conformance.py knows that it is right
-            self.assertTrue(any(self.is_met(lambda mac: accepts(mac, tag), make(key=b"key")) for _ in range(100)))
+            self.assertTrue(any(self.result_during_update(lambda mac: verify_accepts(mac, tag), make(key=b"key"))
+                                for _ in range(100)))
 
-    def is_met(self, call, hasher, work=update):
+    def result_during_update(self, call, hasher, work=update):
         """The result of a call while another thread updates the object."""
-        with by_threads(1, lambda: work(hasher)):
+        with running_in_threads(1, lambda: work(hasher)):
             time.sleep(0.002)
             return call(hasher)
 
     @unittest.skipIf(WITHOUT_GIL, "no GIL")
-    def test_short_ones_do_not(self):
+    def test_short_inputs_keep_the_gil(self):
         for _, make, _, _, _ in FAMILIES:
             hasher, short = make(), bytes(2047)
             self.assertEqual(self.turns_during(lambda: [hasher.update(short) for _ in range(3000)]), 0)
@@ -126,7 +128,7 @@ class Threads(unittest.TestCase):
             several, short = [make() for _ in range(3)], [bytes(1024), b"", bytes(1023)]
             self.assertEqual(self.turns_during(lambda: [vulfsjor.update_many(several, short) for _ in range(3000)]), 0)
 
-    def test_2048_bytes_are_long(self):
+    def test_2048_bytes_release_the_gil(self):
         """Of one object, or of several together."""
         for call in (*(functools.partial(make().update, bytes(2048)) for make, *_ in KINDS),
                      *(functools.partial(vulfsjor.update_many, [make(), make()], [bytes(1024)] * 2)
@@ -137,11 +139,11 @@ class Threads(unittest.TestCase):
             self.assertGreater(self.turns, before)
 
 
-class Shared(unittest.TestCase):
+class SharedObjectsTest(unittest.TestCase):
     """Objects that threads share. One updates with many bytes, the others with few as long as it
     does. All are zeros, so that their order does not matter."""
 
-    def update_meanwhile(self, hasher, call):
+    def update_by_threads_during(self, hasher, call):
         """Updates the hasher by threads, calls `call` meanwhile, and returns the number of bytes.
         Threads switch often."""
         self.addCleanup(sys.setswitchinterval, sys.getswitchinterval())
@@ -165,7 +167,7 @@ class Shared(unittest.TestCase):
         self.assertEqual(len(counts), 2)
         return (24 << 20) + sum(counts)
 
-    def test_updates(self):
+    def test_counts_never_decrease(self):
         """A count meanwhile never becomes less."""
         for make, size, wanted in KINDS:
             hasher, seen = make(), []
@@ -174,13 +176,13 @@ class Shared(unittest.TestCase):
                 seen.append((len(hasher.digest(*size)), getattr(hasher, "count", 0), getattr(hasher, "digest_size", 0)))
                 hasher.copy().update(b"x")
 
-            length = self.update_meanwhile(hasher, call)
+            length = self.update_by_threads_during(hasher, call)
             self.assertEqual(hasher.digest(*size), wanted(bytes(length)))
             self.assertEqual(seen, sorted(seen))
             self.assertEqual({(length, given) for length, _, given in seen},
                              {(len(hasher.digest(*size)), getattr(hasher, "digest_size", 0))})
 
-    def test_few_bytes(self):
+    def test_short_updates_by_threads(self):
         """No thread has ever updated with many."""
         for make, size, wanted in KINDS:
             hasher, barrier = make(), threading.Barrier(4)
@@ -190,11 +192,11 @@ class Shared(unittest.TestCase):
                 for _ in range(3000):
                     hasher.update(bytes(99))
 
-            with by_threads(4, work):
+            with running_in_threads(4, work):
                 pass
             self.assertEqual(hasher.digest(*size), wanted(bytes(4 * 3000 * 99)))
 
-    def test_lists_in_other_orders(self):
+    def test_lists_in_other_orders_do_not_block(self):
         """Threads update the same objects, by lists in other orders and alone, with many bytes and few. None waits for
         ever, and no update is lost."""
         for _, make, theirs, *_ in PLAIN:
@@ -219,7 +221,7 @@ class Shared(unittest.TestCase):
             self.assertEqual([each.digest() for each in ours],
                              [theirs(bytes(200 * done.count(place))).digest() for place in range(4)])
 
-    def test_a_call_that_waits(self):
+    def test_update_while_a_call_waits_is_kept(self):
         """A call waits for an object. Meanwhile a long update of another begins, and is not lost, whichever is the
         first of the call and by its address."""
         short, long, longest = bytes(5), LONG, bytes(3 << 24)
@@ -236,13 +238,13 @@ class Shared(unittest.TestCase):
             self.assertEqual([first.digest(), last.digest()],
                              [theirs(longest + short).digest(), theirs(long + short).digest()])
 
-    def test_what_a_call_holds(self):
+    def test_pieces_are_held_and_lists_are_not(self):
         """While a call absorbs, its pieces do not change their lengths, and it needs neither of the lists."""
         for _, make, theirs, *_ in PLAIN:
             for _ in range(100):
                 ours, piece, is_held = [make(), make()], bytearray(LONG), False
                 hashes, pieces = ours[:], [b"x", piece]
-                with by_threads(1, lambda: vulfsjor.update_many(hashes, pieces)):
+                with running_in_threads(1, lambda: vulfsjor.update_many(hashes, pieces)):
                     time.sleep(0.002)
                     hashes.clear(), pieces.clear()
                     try:
@@ -254,7 +256,7 @@ class Shared(unittest.TestCase):
             self.assertTrue(is_held)
             self.assertEqual([each.digest() for each in ours], [theirs(b"x").digest(), theirs(LONG).digest()])
 
-    def test_counts_of_whole_updates(self):
+    def test_counts_are_of_whole_updates(self):
         hasher, counts, piece = vulfsjor.TreeHasher(64), set(), bytes(100_003)
 
         def work():
@@ -268,7 +270,7 @@ class Shared(unittest.TestCase):
         self.assertEqual({count % len(piece) for count in counts}, {0})
 
 
-class Trees(Test):
+class TreeThreadsTest(Test):
     """Data in memory by threads."""
 
     def test_roots_are_those_of_hashlib(self):
@@ -286,17 +288,17 @@ class Trees(Test):
                             self.assertIsNone(hasher.update(piece, threads=threads))
                         self.assertEqual((hasher.digest(), hasher.count), (wanted, length))
 
-    def most_threads(self, call, wanted):
+    def most_threads_seen_during(self, call, wanted):
         """The most threads, with the caller's, of some calls, until there are as many as wanted."""
         found, ended = [0], threading.Event()
 
         def watch():
             while not ended.is_set():
-                found.append(other_threads())
+                found.append(count_hashing_threads())
 
         for _ in range(50):
-            self.assertTrue(have_ended())
-            with by_threads(1, watch):
+            self.assertTrue(have_hashing_threads_ended())
+            with running_in_threads(1, watch):
                 call()
                 ended.set()
             ended.clear()
@@ -304,7 +306,7 @@ class Trees(Test):
                 break
         return 1 + max(found)
 
-    def test_the_number_of_threads(self):
+    def test_numbers_of_threads_started(self):
         """With the caller's it is the number that is asked for, or that of the processors of the caller's thread, or
         one for each 256 KiB. The most of fifty tries count: on a busy machine some end before all begin."""
         processors = os.sched_getaffinity(0)
@@ -319,9 +321,9 @@ class Trees(Test):
             os.sched_setaffinity(0, set(list(processors)[:allowed]))
             for call in (lambda: vulfsjor.tree_root(data[:length], 4096, threads=asked),
                          lambda: vulfsjor.TreeHasher(4096).update(data[:length], threads=asked)):
-                self.assertEqual(self.most_threads(call, wanted), wanted, (asked, length))
+                self.assertEqual(self.most_threads_seen_during(call, wanted), wanted, (asked, length))
         for asked in (300, 2**32 + 1, 2**70):
-            met = self.most_threads(lambda: vulfsjor.tree_root(data, 4096, threads=asked), 3)
+            met = self.most_threads_seen_during(lambda: vulfsjor.tree_root(data, 4096, threads=asked), 3)
             self.assertTrue(3 <= met <= 256, met)
 
     def test_no_update_is_lost(self):
@@ -340,21 +342,21 @@ class Trees(Test):
                     hasher.update(bytes(length))
                 done.append(length)
 
-        with by_threads(3, work):
+        with running_in_threads(3, work):
             pass
         self.assertEqual(len(done), 180)
         self.assertLessEqual({1, 1 << 17}, set(done))
         self.assertEqual((hasher.count, hasher.digest()), (sum(done), oracle.tree_root(bytes(sum(done)), 1 << 14)))
 
 
-class Signals(Test):
+class SignalsTest(Test):
     """Signals while threads hash: a handler runs in the thread that has called, and its exception ends the call."""
 
     @staticmethod
     def raise_lookup_error():
         raise LookupError("of the handler")
 
-    def during(self, handle, call):
+    def exception_of_interrupted_call(self, handle, call):
         """Makes a call again and again, in each of which a signal comes, until one raises an exception, which is
         returned. The handler calls `handle`."""
         is_called = threading.Event()
@@ -390,10 +392,10 @@ class Signals(Test):
                 self.assertEqual((other.digest(), other.count), (oracle.tree_root(DATA[:5], 1 << 14), 5))
                 raise
 
-        self.assertIsInstance(self.during(self.raise_lookup_error, update), LookupError)
-        self.assertTrue(have_ended())
+        self.assertIsInstance(self.exception_of_interrupted_call(self.raise_lookup_error, update), LookupError)
+        self.assertTrue(have_hashing_threads_ended())
 
-    def test_an_interrupted_root(self):
+    def test_an_interrupted_root_raises(self):
         """Of data, of a file, and of a pipe from which nothing comes. The file would take minutes."""
         data, path, (reader, writer) = bytes(LONGEST), self.file(length=1 << 37), os.pipe()
         self.addCleanup(os.close, reader), self.addCleanup(os.close, writer)
@@ -406,10 +408,10 @@ class Signals(Test):
             lambda: vulfsjor.tree_root_file(path, 2**32 - 1, threads=3),
             lambda: vulfsjor.tree_root_file(reader, 1 << 16),
         ):
-            start, found = time.monotonic(), self.during(self.raise_lookup_error, call)
+            start, found = time.monotonic(), self.exception_of_interrupted_call(self.raise_lookup_error, call)
             self.assertEqual((type(found), str(found)), (LookupError, "of the handler"))
             self.assertLess(time.monotonic() - start, 20)
-            self.assertTrue(have_ended())
+            self.assertTrue(have_hashing_threads_ended())
 
 
 if __name__ == "__main__":

@@ -48,7 +48,7 @@ _Mac = TypeVar("_Mac", _library.blake2b_mac, _library.blake2s_mac, _library.blak
 _Other = TypeVar("_Other", bound=_Hasher)
 
 
-def _made(digest: str | Callable[..., _Hasher], parameters: dict[str, Any]) -> _Hasher:
+def _new_hasher(digest: str | Callable[..., _Hasher], parameters: dict[str, Any]) -> _Hasher:
     """An object of the function with this name, or of this one."""
     if not isinstance(digest, str):
         return digest(**parameters)
@@ -57,7 +57,7 @@ def _made(digest: str | Callable[..., _Hasher], parameters: dict[str, Any]) -> _
     return cast(_Hasher, getattr(_library, digest)(**parameters))
 
 
-def _read(file: _Readable, buffer: "bytearray | memoryview") -> int:
+def _read_some(file: _Readable, buffer: "bytearray | memoryview") -> int:
     """Reads some bytes into the buffer. Returns how many: 0 at the end of the file."""
     count = file.readinto(buffer)
     if count is None:
@@ -123,7 +123,7 @@ def file_digest(file: Any, digest: Any, /, **parameters: Any) -> Any:
     ValueError means that the file is not open for reading bytes, or that no class has the name,
     and BlockingIOError that a read would have to wait.
     """
-    hasher = _made(digest, parameters)
+    hasher = _new_hasher(digest, parameters)
     if hasattr(file, "getbuffer"):
         hasher.update(file.getbuffer())
         return hasher
@@ -131,16 +131,16 @@ def file_digest(file: Any, digest: Any, /, **parameters: Any) -> Any:
         raise ValueError(f"'{file!r}' is not a file-like object in binary reading mode.")
     buffer = bytearray(_BUFFER_BYTES)
     view = memoryview(buffer)
-    while count := _read(file, buffer):
+    while count := _read_some(file, buffer):
         hasher.update(view[:count])
     return hasher
 
 
-def _fill(file: io.FileIO, view: memoryview, path: "FileDescriptorOrPath") -> int:
+def _read_until_full(file: io.FileIO, view: memoryview, path: "FileDescriptorOrPath") -> int:
     """Reads into the whole view. Returns the number of bytes, which is less only at the end of the file."""
     done = 0
     try:
-        while done < len(view) and (count := _read(file, view[done:])):
+        while done < len(view) and (count := _read_some(file, view[done:])):
             done += count
     except OSError as error:
         error.filename = path
@@ -148,12 +148,12 @@ def _fill(file: io.FileIO, view: memoryview, path: "FileDescriptorOrPath") -> in
     return done
 
 
-def _root_in_order(file: io.FileIO, hasher: _library.TreeHasher, path: "FileDescriptorOrPath",
-                   progress: Callable[[int], object] | None) -> bytes:
+def _root_by_one_thread(file: io.FileIO, hasher: _library.TreeHasher, path: "FileDescriptorOrPath",
+                        progress: Callable[[int], object] | None) -> bytes:
     """The root of a file from its position to its end, by this thread."""
     buffer = memoryview(bytearray(min(max(_LEAST_TREE_BYTES, 8 * hasher.leaf_size), _MOST_TREE_BYTES)))
     while True:
-        count = _fill(file, buffer, path)
+        count = _read_until_full(file, buffer, path)
         hasher.update(buffer[:count])
         if progress is not None and (count or not hasher.count):
             progress(hasher.count)
@@ -188,12 +188,12 @@ def tree_root_file(path: "FileDescriptorOrPath", /, leaf_size: int, *,
     with io.FileIO(path, closefd=not isinstance(path, int)) as file:
         about = os.fstat(file.fileno())
         if not stat.S_ISREG(about.st_mode):
-            return _root_in_order(file, hasher, path, progress)
+            return _root_by_one_thread(file, hasher, path, progress)
         if about.st_size >= _LONG_FILE_BYTES:
             return hasher._root_of_file(path, file.fileno(), about.st_size, threads, progress)
         before = file.tell()
         try:
             file.seek(0)
-            return _root_in_order(file, hasher, path, progress)
+            return _root_by_one_thread(file, hasher, path, progress)
         finally:
             file.seek(before)

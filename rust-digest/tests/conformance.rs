@@ -5,7 +5,7 @@
 #[path = "../../rust/tests/common/mod.rs"]
 mod common;
 
-use common::{bytes, done, hex, run, yes_or_no, Driver, Given, Hash};
+use common::{bytes, no_value, hex, run, yes_or_no, Driver, Given, Hash};
 use digest::consts::{U1, U16, U20, U28, U32, U48, U63, U64};
 use digest::{
     Digest, ExtendableOutput, ExtendableOutputReset, FixedOutput, FixedOutputReset, KeyInit, Mac, Output, Reset, Update,
@@ -24,7 +24,7 @@ fn absorb(to: &mut (impl Update + Write), message: &[u8]) -> Outcome {
     to.update(one);
     to.write_all(other).unwrap();
     to.flush().unwrap();
-    done()
+    no_value()
 }
 
 /// A hasher, a MAC or a hasher whose size is chosen at run time, with what it was before its input.
@@ -43,11 +43,11 @@ macro_rules! hash {
             }
             fn reset(&mut self) -> Outcome {
                 Reset::reset(&mut self.0);
-                done()
+                no_value()
             }
             fn digest(&mut self) -> Outcome {
-                let digest = self.by_all_ways(self.0.clone());
-                self.by_all_ways(self.1.clone());
+                let digest = self.checked_digest(self.0.clone());
+                self.checked_digest(self.1.clone());
                 Some(Ok(hex(&digest)))
             }
             fn verify(&mut self, tag: &[u8]) -> Outcome {
@@ -62,7 +62,7 @@ hash!(Tagged(Mac + FixedOutputReset): |mac, tag| mac.verify_slice(tag).is_ok());
 hash!(Variable(VariableOutputReset): |hasher, tag| *hasher.finalize_boxed() == *tag);
 
 impl<T: Digest + FixedOutputReset + Reset + Update + Clone> Fixed<T> {
-    fn by_all_ways(&self, mut hasher: T) -> Vec<u8> {
+    fn checked_digest(&self, mut hasher: T) -> Vec<u8> {
         let digest = hasher.clone().finalize();
         let mut out = Output::<T>::default();
         FixedOutput::finalize_into(hasher.clone(), &mut out);
@@ -74,7 +74,7 @@ impl<T: Digest + FixedOutputReset + Reset + Update + Clone> Fixed<T> {
 }
 
 impl<T: Mac + FixedOutputReset + Reset + Clone> Tagged<T> {
-    fn by_all_ways(&self, mut mac: T) -> Vec<u8> {
+    fn checked_digest(&self, mut mac: T) -> Vec<u8> {
         let tag = mac.clone().finalize().into_bytes();
         assert_eq!(Mac::finalize_reset(&mut mac).into_bytes(), tag);
         assert!(mac.finalize() == self.1.clone().finalize());
@@ -83,7 +83,7 @@ impl<T: Mac + FixedOutputReset + Reset + Clone> Tagged<T> {
 }
 
 impl<T: VariableOutputReset + Clone> Variable<T> {
-    fn by_all_ways(&self, mut hasher: T) -> Vec<u8> {
+    fn checked_digest(&self, mut hasher: T) -> Vec<u8> {
         let size = hasher.output_size();
         for other in [0, size - 1, size + 1] {
             let mut out = vec![7; other];
@@ -115,7 +115,7 @@ where
     fn reset(&mut self) -> Outcome {
         Reset::reset(&mut self.0);
         self.1 = None;
-        done()
+        no_value()
     }
     fn read(&mut self, count: u64) -> Outcome {
         let mut hasher = self.0.clone();
@@ -142,7 +142,7 @@ where
 }
 
 /// What was made, in a box with what its kind of hash adds.
-fn boxed<T, H: Hash<()> + 'static, E>(made: Result<T, E>, add: fn(T) -> H) -> Made {
+fn boxed_hash<T, H: Hash<()> + 'static, E>(made: Result<T, E>, add: fn(T) -> H) -> Made {
     Some(made.map(|made| Box::new(add(made)) as _).map_err(|_| ()))
 }
 
@@ -158,14 +158,14 @@ macro_rules! family {
                 if given.has_only(&["size", "key"]) {
                     assert_eq!(<$mac<$size> as KeyInit>::new_from_slice(&key).is_ok(), made.is_ok());
                 }
-                return boxed(made, |made| Tagged(made.clone(), made));
+                return boxed_hash(made, |made| Tagged(made.clone(), made));
             }
             if size == <$size>::USIZE && given.has_only(&["size", "salt", "person"]) {
                 let made = $hasher::<$size>::new_with_salt_and_personal(&salt, &persona);
-                return boxed(made, |made| Fixed(made.clone(), made));
+                return boxed_hash(made, |made| Fixed(made.clone(), made));
             })*
             if given.has_only(&["size"]) {
-                return boxed($var::new(size), |made| Variable(made.clone(), made));
+                return boxed_hash($var::new(size), |made| Variable(made.clone(), made));
             }
             None
         }
@@ -190,8 +190,8 @@ impl Driver for Crate {
             "blake2s" => blake2s(given),
             "blake2bp" => blake2bp(given),
             "blake2sp" => blake2sp(given),
-            "blake2xb" => given.params(|params| boxed(Blake2xb::with_params(params), |hasher| Long(hasher, None))),
-            _ => given.params(|params| boxed(Blake2xs::with_params(params), |hasher| Long(hasher, None))),
+            "blake2xb" => given.params(|params| boxed_hash(Blake2xb::with_params(params), |hasher| Long(hasher, None))),
+            _ => given.params(|params| boxed_hash(Blake2xs::with_params(params), |hasher| Long(hasher, None))),
         }
     }
 
@@ -215,7 +215,7 @@ impl Driver for Crate {
 }
 
 #[test]
-fn cases() {
+fn conformance_cases_have_expected_outcomes() {
     let names = ["blake2b", "blake2s", "blake2bp", "blake2sp", "blake2xb", "blake2xs"];
     let skipped = [
         ("derive", 15), ("equal", 328), ("hash", 709), ("load", 565), ("many", 178), ("new", 1347), ("save", 119),

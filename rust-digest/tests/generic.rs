@@ -15,7 +15,7 @@ use digest::{
 use std::io::{self, Write};
 use vulfsjor_digest::*;
 
-fn name_of<T: AlgorithmName>() -> String {
+fn algorithm_name_of<T: AlgorithmName>() -> String {
     struct Name<T>(T);
     impl<T: AlgorithmName> std::fmt::Display for Name<std::marker::PhantomData<T>> {
         fn fmt(&self, f: &mut std::fmt::Formatter<'_>) -> std::fmt::Result {
@@ -31,7 +31,7 @@ macro_rules! family {
             use super::*;
 
             #[test]
-            fn the_default_is_the_longest_without_a_key() {
+            fn default_is_longest_and_unkeyed() {
                 let wanted = vulfsjor::$hasher::digest(b"abc");
                 assert_eq!($hasher::<$longest>::digest(b"abc")[..], *wanted.as_bytes());
                 let mut boxed: Box<dyn DynDigest> = Box::<$hasher<$longest>>::default();
@@ -44,7 +44,7 @@ macro_rules! family {
 
             // Checks that other crates over these types agree with Python's hmac and hashlib.
             #[test]
-            fn hmac_hkdf_and_pbkdf2() {
+            fn hmac_hkdf_and_pbkdf2_are_as_in_python() {
                 type Hmac = hmac::SimpleHmac<$hasher<$longest>>;
                 for fields in lines($letter, "hmac") {
                     let [key, message, wanted] = [0, 1, 2].map(|i| bytes(&fields[i]).unwrap());
@@ -74,12 +74,12 @@ macro_rules! family {
 family!(blake2b, "b", Blake2b, Blake2bMac, 64, U64);
 family!(blake2s, "s", Blake2s, Blake2sMac, 32, U32);
 
-macro_rules! names_and_sizes {
+macro_rules! names_and_sizes_are_right {
     ($($hasher:ident $mac:ident $var:ident $max:literal $block:literal,)*) => {
         #[test]
-        fn names_and_sizes() {
-            $(assert_eq!(name_of::<$hasher<U16>>(), concat!(stringify!($hasher), "128"));
-            assert_eq!(name_of::<$mac<U16>>(), concat!(stringify!($mac), "128"));
+        fn names_and_sizes_are_right() {
+            $(assert_eq!(algorithm_name_of::<$hasher<U16>>(), concat!(stringify!($hasher), "128"));
+            assert_eq!(algorithm_name_of::<$mac<U16>>(), concat!(stringify!($mac), "128"));
             assert_eq!(<$hasher<U16> as BlockSizeUser>::block_size(), $block);
             assert_eq!(<$mac<U16> as BlockSizeUser>::block_size(), $block);
             assert_eq!(<$mac<U16> as KeySizeUser>::key_size(), $max);
@@ -94,7 +94,7 @@ macro_rules! names_and_sizes {
         }
     };
 }
-names_and_sizes! {
+names_and_sizes_are_right! {
     Blake2b Blake2bMac Blake2bVar 64 128,
     Blake2s Blake2sMac Blake2sVar 32 64,
     Blake2bp Blake2bpMac Blake2bpVar 64 128,
@@ -102,7 +102,7 @@ names_and_sizes! {
 }
 
 #[test]
-fn types_with_names() {
+fn aliases_are_the_generic_types() {
     assert_eq!(Output::<Blake2b512>::default().len(), 64);
     assert_eq!(Blake2b256::digest(b"x"), Blake2b::<U32>::digest(b"x"));
     assert_eq!(Blake2b512::digest(b"x"), Blake2b::<U64>::digest(b"x"));
@@ -119,7 +119,7 @@ fn types_with_names() {
 }
 
 #[test]
-fn outputs() {
+fn xof_lengths_sizes_and_names_are_right() {
     assert!(Blake2xs::with_params(&vulfsjor::Params::new().output_size(0)).is_err());
     for length in 0..=65 {
         let key = &[1; 65][..length];
@@ -131,7 +131,8 @@ fn outputs() {
     let _hasher = <Blake2xs as KeyInit>::new(&GenericArray::default());
     assert_eq!((Blake2xb::block_size(), Blake2xs::block_size()), (128, 64));
     assert_eq!((Blake2xb::key_size(), Blake2xs::key_size()), (64, 32));
-    assert_eq!((name_of::<Blake2xb>(), name_of::<Blake2xs>()), ("Blake2xb".into(), "Blake2xs".into()));
+    assert_eq!(algorithm_name_of::<Blake2xb>(), "Blake2xb");
+    assert_eq!(algorithm_name_of::<Blake2xs>(), "Blake2xs");
     let text = format!("{:?} {:?}", Blake2xb::default(), Blake2xs::default().finalize_xof());
     assert_eq!(text, "Blake2xb { .. } Blake2xsReader { .. }");
 }
@@ -139,7 +140,7 @@ fn outputs() {
 // A stream is copied into a hasher, and its output out of the reader, to the end.
 #[test]
 #[cfg(feature = "std")]
-fn outputs_are_streams() {
+fn outputs_are_written_and_read_as_streams() {
     use std::io::Read;
     let mut wanted = [0; 100];
     let params = vulfsjor::Params::new().output_size(100);
@@ -159,7 +160,7 @@ fn outputs_are_streams() {
 
 #[test]
 #[should_panic(expected = "bytes that are left")]
-fn no_output_past_the_end() {
+fn reading_past_the_end_panics() {
     let hasher = Blake2xb::with_params(&vulfsjor::Params::new().output_size(9)).unwrap();
     hasher.finalize_xof().read(&mut [0; 10]);
 }
@@ -192,7 +193,7 @@ mod cores {
                 }
                 assert!($core::new(0).is_err() && $core::new($max + 1).is_err());
                 assert_eq!(($core::block_size(), $core::output_size()), (2 * $max, $max));
-                assert_eq!(name_of::<$core>(), stringify!($hasher));
+                assert_eq!(algorithm_name_of::<$core>(), stringify!($hasher));
                 let text = concat!(stringify!($core), " { .. }");
                 assert_eq!(format!("{:?}", $core::new_with_params(b"", b"", 0, 1)), text);
             }
@@ -203,7 +204,7 @@ mod cores {
     core!(of_blake2s, Blake2sVarCore, Blake2s, blake2s, 8, 32);
 
     #[test]
-    fn panic_for_lengths_out_of_range_and_for_keys() {
+    fn wrong_lengths_and_keys_panic() {
         let lengths = [(17, 0, 0, 1), (0, 17, 0, 1), (0, 0, 1, 1), (0, 0, 0, 65), (0, 0, 0, 0)];
         for (salt, persona, key_size, output_size) in lengths {
             let made = std::panic::catch_unwind(|| {

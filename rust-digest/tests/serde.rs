@@ -5,7 +5,7 @@ use serde::de::value::{BorrowedBytesDeserializer, BytesDeserializer, Error, SeqD
 use vulfsjor_digest::serde::deserialize;
 
 #[test]
-fn bytes_that_are_not_borrowed() {
+fn owned_bytes_are_deserialized() {
     for bytes in [&[7, 8][..], &[7; 64]] {
         assert_eq!(deserialize(BytesDeserializer::<Error>::new(bytes)).unwrap(), bytes);
         assert_eq!(deserialize(BorrowedBytesDeserializer::<Error>::new(bytes)).unwrap(), bytes);

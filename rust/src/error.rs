@@ -83,7 +83,7 @@ impl InvalidArgument {
 
     // The result of a call of the library that returned this status. `explain` finds the argument
     // that was refused.
-    pub(crate) fn unless_zero(
+    pub(crate) fn ok_if_status_is_zero(
         status: i32,
         explain: impl FnOnce() -> Result<(), Self>,
     ) -> Result<(), Self> {

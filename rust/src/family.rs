@@ -9,7 +9,7 @@ use crate::{InvalidArgument, InvalidState, KeyedState, MacError, Params};
 pub(crate) const PART: usize = 16;
 
 // Pointers to at most PART messages, and then to empty ones. They are valid as long as these are.
-fn texts_of(messages: &[impl AsRef<[u8]>]) -> [Text; PART] {
+fn message_pointers_of(messages: &[impl AsRef<[u8]>]) -> [Text; PART] {
     let mut texts = [Text::of(b""); PART];
     for (text, message) in texts.iter_mut().zip(messages) {
         *text = Text::of(message.as_ref());
@@ -44,12 +44,12 @@ macro_rules! family {
             #[doc = concat!("Returns the digest of a message, in ", stringify!($max), " bytes.")]
             #[doc(alias = "hash")]
             pub fn digest(message: impl AsRef<[u8]>) -> Digest {
-                Self::one_call(message.as_ref(), b"").expect("no key, and no input of 2^64 bytes")
+                Self::digest_in_one_call(message.as_ref(), b"").expect("no key, and no input of 2^64 bytes")
             }
 
             // The digest under a key, or without one if that is empty.
             #[inline]
-            fn one_call(message: &[u8], key: &[u8]) -> Result<Digest, InvalidArgument> {
+            fn digest_in_one_call(message: &[u8], key: &[u8]) -> Result<Digest, InvalidArgument> {
                 let mut digest = Digest::zeros($max);
                 // Safety: the pointers come from slices of these lengths. The output overlaps none
                 // of them and has 64 bytes, which is at least what the call writes.
@@ -64,7 +64,7 @@ macro_rules! family {
                     )
                 };
                 let explain = || check_range("key.len()", key.len() as u64, 1, $max);
-                InvalidArgument::unless_zero(status, explain).map(|()| digest)
+                InvalidArgument::ok_if_status_is_zero(status, explain).map(|()| digest)
             }
 
             /// Absorbs the input after all earlier input.
@@ -157,7 +157,7 @@ macro_rules! family {
             }
         }
 
-        of_stream!($hasher);
+        impl_stream_methods!($hasher);
 
         #[doc = concat!("A ", $family, " message authentication code in progress. It is wiped")]
         /// when it is dropped.
@@ -189,7 +189,7 @@ macro_rules! family {
             /// refused.
             #[inline]
             pub fn with_params(params: &Params<'_>) -> Result<Self, InvalidArgument> {
-                params.check_mac($max)?;
+                params.check_key_and_tag_length($max)?;
                 $hasher::with_params(params).map($mac)
             }
 
@@ -201,7 +201,7 @@ macro_rules! family {
             #[doc = concat!("1 to ", stringify!($max), " bytes.")]
             pub fn tag(key: &[u8], message: impl AsRef<[u8]>) -> Result<Digest, InvalidArgument> {
                 check_range("key.len()", key.len() as u64, 1, $max)?;
-                $hasher::one_call(message.as_ref(), key)
+                $hasher::digest_in_one_call(message.as_ref(), key)
             }
 
             /// Absorbs the input after all earlier input.
@@ -260,7 +260,7 @@ macro_rules! family {
             }
         }
 
-        of_stream!($mac);
+        impl_stream_methods!($mac);
     };
 }
 
@@ -309,7 +309,7 @@ macro_rules! sequential {
                         &node,
                     )
                 };
-                InvalidArgument::unless_zero(status, || params.check(&$limits))?;
+                InvalidArgument::ok_if_status_is_zero(status, || params.check(&$limits))?;
                 if last_node {
                     hasher.set_last_node(true);
                 }
@@ -358,18 +358,18 @@ macro_rules! sequential {
                     return Self::with_params(params).map(|_| ());
                 }
                 let mut parts = messages.chunks(PART).zip(digests.chunks_mut(PART));
-                parts.try_for_each(|(part, digests)| Self::digest_part(params, part, digests))
+                parts.try_for_each(|(part, digests)| Self::digest_up_to_16_messages(params, part, digests))
             }
 
             // The same for at most PART messages.
-            fn digest_part<const N: usize>(
+            fn digest_up_to_16_messages<const N: usize>(
                 params: &Params<'_>,
                 messages: &[impl AsRef<[u8]>],
                 digests: &mut [[u8; N]],
             ) -> Result<(), InvalidArgument> {
                 let Params { salt, persona, .. } = *params;
                 let key = params.key_or_none();
-                let texts = texts_of(messages);
+                let texts = message_pointers_of(messages);
                 // Safety: the pointers come from slices of these lengths, also those of the
                 // messages. The output overlaps none of them.
                 let status = unsafe {
@@ -387,7 +387,7 @@ macro_rules! sequential {
                         persona.len(),
                     )
                 };
-                InvalidArgument::unless_zero(status, || params.check(&$limits))
+                InvalidArgument::ok_if_status_is_zero(status, || params.check(&$limits))
             }
 
             /// Absorbs the inputs, each into the hasher at its place, as [`update`](Self::update)
@@ -424,7 +424,7 @@ macro_rules! sequential {
                 let can_all = pairs.all(|(hasher, input)| hasher.can_absorb(input.as_ref()));
                 assert!(can_all, "an input of 2^64 bytes");
                 for (part, inputs) in hashers.chunks_mut(PART).zip(inputs.chunks(PART)) {
-                    Self::update_part(part, inputs);
+                    Self::update_up_to_16_hashers(part, inputs);
                 }
             }
 
@@ -436,8 +436,8 @@ macro_rules! sequential {
             }
 
             // `update_many` of at most PART hashers.
-            fn update_part(hashers: &mut [Self], inputs: &[impl AsRef<[u8]>]) {
-                let texts = texts_of(inputs);
+            fn update_up_to_16_hashers(hashers: &mut [Self], inputs: &[impl AsRef<[u8]>]) {
+                let texts = message_pointers_of(inputs);
                 // Safety: a hasher has the layout of its state, since it is transparent. The
                 // pointers come from slices of these lengths, also those of the inputs, which the
                 // states cannot overlap.
@@ -540,7 +540,7 @@ macro_rules! parallel_methods {
                         persona.len(),
                     )
                 };
-                InvalidArgument::unless_zero(status, || params.check(&$limits))?;
+                InvalidArgument::ok_if_status_is_zero(status, || params.check(&$limits))?;
                 Ok(hasher)
             }
         }

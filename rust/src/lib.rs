@@ -189,7 +189,7 @@ extern crate std;
 
 // What all types that absorb input in pieces have: `update_reader`, `std::io::Write`, and a `Debug`
 // that shows nothing.
-macro_rules! of_stream {
+macro_rules! impl_stream_methods {
     ($type:ident) => {
         /// Shows no byte of the state, since that may hold a key.
         impl core::fmt::Debug for $type {

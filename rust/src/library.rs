@@ -6,7 +6,7 @@ with_assembly! {
     use core::arch::global_asm;
 
     #[cfg(target_arch = "x86_64")]
-    use crate::processor::{ask, level};
+    use crate::processor::{detect_processor, level};
 
     // Panics if the processor can run none of the builds. A hasher is made after this call, since a
     // later panic would drop it, and the wipe of the drop would be a second panic.
@@ -14,7 +14,7 @@ with_assembly! {
     pub(crate) fn panic_without_build() {
         #[cfg(target_arch = "x86_64")]
         if level() == 0 {
-            ask();
+            detect_processor();
         }
     }
 
@@ -257,7 +257,7 @@ macro_rules! calls {
                 #[inline(never)]
                 #[allow(clippy::too_many_arguments)]
                 unsafe fn first_call($($argument: $type),*) $(-> $answer)? {
-                    ask();
+                    detect_processor();
                     // Safety: as below.
                     unsafe { $name($($argument),*) }
                 }

@@ -390,7 +390,7 @@ impl<'a> Params<'a> {
 
     // An error unless a MAC of a family with keys and tags of up to `max` bytes accepts the key and
     // the length of the tag.
-    pub(crate) fn check_mac(&self, max: u64) -> Result<(), InvalidArgument> {
+    pub(crate) fn check_key_and_tag_length(&self, max: u64) -> Result<(), InvalidArgument> {
         check_range("key.len()", self.key_or_none().len() as u64, 1, max)?;
         let least = if self.allow_short { 1 } else { LEAST_TAG };
         self.output_size.map_or(Ok(()), |size| {

@@ -6,7 +6,7 @@ use core::sync::atomic::{AtomicU8, Ordering::Relaxed};
 // that, and threads that detect it at the same time write the same value.
 static LEVEL: AtomicU8 = AtomicU8::new(0);
 
-/// Returns 4, 3 or 2 for the builds for x86-64-v4, x86-64-v3 and x86-64-v2, or 0 if [`ask`] has to
+/// Returns 4, 3 or 2 for the builds for x86-64-v4, x86-64-v3 and x86-64-v2, or 0 if [`detect_processor`] has to
 /// be called first. If the compiler may assume the instructions of x86-64-v3 or x86-64-v4, the
 /// result is a constant.
 #[inline]
@@ -44,7 +44,7 @@ pub(crate) fn level() -> u8 {
 ///
 /// If it is below x86-64-v2.
 #[cold]
-pub(crate) fn ask() {
+pub(crate) fn detect_processor() {
     let level = level_of_processor();
     assert!(
         level >= 2,
@@ -128,12 +128,12 @@ pub(crate) fn level_of_processor() -> u8 {
         }
     };
     // Safety: the processor has OSXSAVE.
-    level_of(&leaves, || unsafe { saved_registers() })
+    level_of(&leaves, || unsafe { read_xcr0() })
 }
 
 // The low half of XCR0: the registers that the system saves. The processor has OSXSAVE.
 #[target_feature(enable = "xsave")]
-unsafe fn saved_registers() -> u32 {
+unsafe fn read_xcr0() -> u32 {
     // Safety: as the caller says.
     unsafe { _xgetbv(0) as u32 }
 }

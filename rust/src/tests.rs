@@ -50,7 +50,7 @@ macro_rules! family {
             // A hasher that has compressed this number of bytes less than 2^64, a multiple of its leaves.
             // c/include/vulfsjor.h names the word of a leaf's counter, and the next, whose first $pending bits are the
             // number of pending bytes.
-            pub(super) fn near_the_end(mut hasher: $hasher, bytes: u64) -> $hasher {
+            pub(super) fn hasher_near_2_to_the_64(mut hasher: $hasher, bytes: u64) -> $hasher {
                 hasher.state.0[$counter] = (0u64.wrapping_sub(bytes) / $leaves).to_le();
                 let others = !0u64 << ($pending - 1) << 1;
                 hasher.state.0[$counter + 1] &= others.to_le();
@@ -67,7 +67,7 @@ macro_rules! family {
 
             #[test]
             fn inputs_end_before_2_to_the_64() {
-                let mut hasher = near_the_end($hasher::new(), $end);
+                let mut hasher = hasher_near_2_to_the_64($hasher::new(), $end);
                 hasher.update([7; $end - 1]);
                 assert_eq!(hasher.count(), u64::MAX);
                 let before = $result!(hasher);
@@ -81,11 +81,11 @@ macro_rules! family {
             }
 
             #[test]
-            fn a_key_counts_to_the_end_and_not_to_the_input() {
+            fn count_of_input_excludes_the_key_block() {
                 let params = Params::new().key(b"key").output_size(1);
                 let hasher = $hasher::with_params(&params).unwrap();
                 assert_eq!(hasher.count(), 0);
-                let mut hasher = near_the_end(hasher, $end / 2);
+                let mut hasher = hasher_near_2_to_the_64(hasher, $end / 2);
                 hasher.update([7; $end / 2 - 1]);
                 assert_eq!(hasher.count(), u64::MAX - $key);
                 assert!(panic_of(|| hasher.update(b"x").count()).contains("an input of 2^64 bytes"));
@@ -123,15 +123,15 @@ macro_rules! several {
             use super::*;
             use std::vec::Vec;
 
-            fn words(hashers: &[$hasher]) -> Vec<[u64; $state::ZEROS.0.len()]> {
+            fn state_words_of(hashers: &[$hasher]) -> Vec<[u64; $state::ZEROS.0.len()]> {
                 hashers.iter().map(|hasher| hasher.state.0).collect()
             }
 
             // This number of hashers, and the one at the place can absorb one byte less than a block.
-            fn one_near_the_end(count: usize, place: usize, key: &[u8]) -> Vec<$hasher> {
+            fn hashers_with_one_near_the_end(count: usize, place: usize, key: &[u8]) -> Vec<$hasher> {
                 let params = if key.is_empty() { Params::new() } else { Params::new().key(key) };
                 let mut hashers = std::vec![$hasher::new(); count];
-                hashers[place] = $make::near_the_end(params.$make().unwrap(), $block);
+                hashers[place] = $make::hasher_near_2_to_the_64(params.$make().unwrap(), $block);
                 hashers
             }
 
@@ -141,14 +141,14 @@ macro_rules! several {
                 let places = |count| (0..count).map(move |place| (count, place));
                 for (count, place) in [1, 4, 9, 16, 17, 33].into_iter().flat_map(places) {
                     for key in [&b""[..], b"key"] {
-                        let mut hashers = one_near_the_end(count, place, key);
+                        let mut hashers = hashers_with_one_near_the_end(count, place, key);
                         let mut inputs = std::vec![&long[..3 * $block]; count];
-                        let before = words(&hashers);
+                        let before = state_words_of(&hashers);
                         for length in [$block, $block + 1, LONG] {
                             inputs[place] = &long[..length];
                             let update = || $hasher::update_many(&mut hashers, &inputs);
                             assert!(panic_of(update).contains("an input of 2^64 bytes"));
-                            assert_eq!(words(&hashers), before);
+                            assert_eq!(state_words_of(&hashers), before);
                         }
                         inputs[place] = &long[..$block - 1];
                         let mut wanted = hashers.clone();
@@ -170,10 +170,10 @@ macro_rules! several {
                 for place in 0..9 {
                     let mut hashers = std::vec![$hasher::new(); 9];
                     hashers[place].state = $state::ZEROS;
-                    let before = words(&hashers);
+                    let before = state_words_of(&hashers);
                     let update = || $hasher::update_many(&mut hashers, &[[7; 3 * $block]; 9]);
                     assert!(panic_of(update).contains("an input of 2^64 bytes"));
-                    assert_eq!(words(&hashers), before);
+                    assert_eq!(state_words_of(&hashers), before);
                 }
             }
 
@@ -189,13 +189,13 @@ macro_rules! several {
             #[test]
             fn an_input_that_grows_is_refused() {
                 for count in [1, 9, 16, 17, 33] {
-                    let mut hashers = one_near_the_end(count, count - 1, b"");
-                    let before = words(&hashers);
+                    let mut hashers = hashers_with_one_near_the_end(count, count - 1, b"");
+                    let before = state_words_of(&hashers);
                     let inputs: Vec<_> = (0..count).map(|_| Growing(1.into())).collect();
                     let update = || $hasher::update_many(&mut hashers, &inputs);
                     assert!(panic_of(update).contains("an input of 2^64 bytes"));
                     let of_last_call = (count - 1) / 16 * 16;
-                    assert_eq!(words(&hashers)[of_last_call..], before[of_last_call..]);
+                    assert_eq!(state_words_of(&hashers)[of_last_call..], before[of_last_call..]);
                 }
             }
         }
@@ -220,7 +220,7 @@ fn a_tree_that_no_init_has_made_is_refused() {
 // A hasher of a tree with leaves of 1 KiB that has absorbed this number of leaves less than 2^58
 // bytes, and one byte more, which is in the open leaf. The words are those of `closed` and of the
 // root's counter in c/include/vulfsjor.h.
-fn tree_near_the_end(leaves: u64) -> TreeHasher {
+fn tree_hasher_near_2_to_the_58(leaves: u64) -> TreeHasher {
     const CLOSED: usize = 2 * 43;
     const ROOT_COUNTER: usize = 43 + 16;
     let mut hasher = TreeParams::new(1 << 10).hasher().unwrap();
@@ -236,7 +236,7 @@ fn tree_near_the_end(leaves: u64) -> TreeHasher {
 
 #[test]
 fn inputs_of_a_tree_end_before_2_to_the_58() {
-    let mut hasher = tree_near_the_end(1);
+    let mut hasher = tree_hasher_near_2_to_the_58(1);
     hasher.update([7; 1022]);
     assert_eq!(hasher.count(), (1 << 58) - 1);
     hasher.update(b"");
@@ -250,7 +250,7 @@ fn inputs_of_a_tree_end_before_2_to_the_58() {
 
 #[test]
 fn leaves_by_their_digests_end_before_2_to_the_58() {
-    let mut hasher = tree_near_the_end(3);
+    let mut hasher = tree_hasher_near_2_to_the_58(3);
     hasher.update([7; 1023]); // a leaf boundary, with room for 2,047 bytes
     let next = |skip, length: usize| {
         let (leaves, digests) = (&[7; 2048][..length], &mut [0; 128][..length / 16]);
@@ -287,11 +287,11 @@ mod threads {
     #[test]
     fn updates_by_threads_end_before_2_to_the_58() {
         // The bytes that the open leaf lacks would fit.
-        let mut hasher = tree_near_the_end(2);
+        let mut hasher = tree_hasher_near_2_to_the_58(2);
         let update = || hasher.update_threads([7; 5000], 3).count();
         assert!(panic_of(update).contains("an input of 2^58 bytes"));
         assert_eq!(hasher.count(), (1 << 58) - 2047);
-        let mut hasher = tree_near_the_end(1);
+        let mut hasher = tree_hasher_near_2_to_the_58(1);
         for too_long in [1023, 1024, 5000] {
             let message = vec![7; too_long];
             let update = || hasher.update_threads(&message, 3).count();
@@ -302,12 +302,12 @@ mod threads {
         assert_eq!(hasher.count(), (1 << 58) - 1);
     }
 
-    fn plan_of(length: u64, leaf_length: u32, threads: usize, most: u64) -> Plan {
+    fn plan_for(length: u64, leaf_length: u32, threads: usize, most: u64) -> Plan {
         Plan::of_message(length, leaf_length, &Limits::of(threads, most)).unwrap()
     }
 
     // What a call returns. A call that waits for ever fails here.
-    fn in_time<R: Send + 'static>(call: impl FnOnce() -> R + Send + 'static) -> R {
+    fn result_within_30_seconds<R: Send + 'static>(call: impl FnOnce() -> R + Send + 'static) -> R {
         let (sender, receiver) = mpsc::channel();
         let thread = thread::spawn(move || sender.send(call()));
         match receiver.recv_timeout(Duration::from_secs(30)) {
@@ -323,7 +323,7 @@ mod threads {
         let least = LEAST_BYTES;
         assert_eq!((least, PART_BYTES), (256 << 10, 1 << 20));
         assert_eq!((MOST_BUFFER_BYTES, BUFFER_BYTES), (16 << 20, 1 << 20));
-        let threads = |asked, length| plan_of(length, 1000, asked, u64::MAX).threads;
+        let threads = |asked, length| plan_for(length, 1000, asked, u64::MAX).threads;
         assert_eq!([3, 2].map(|n| threads(3, n * least)), [3, 2]);
         assert_eq!([threads(3, 2 * least - 1), threads(1, 10 * least)], [1, 1]);
         assert!(threads(usize::MAX, 1 << 40) > 1 << 20); // there is no other limit
@@ -336,7 +336,7 @@ mod threads {
     // Parts of a file with other marks at the same places below 4 GiB, read in one piece and in more.
     #[cfg(unix)]
     #[test]
-    fn parts_of_a_file_past_4_gib() {
+    fn parts_past_4_gib_are_read_in_place() {
         use std::os::unix::fs::FileExt;
         let path = std::env::temp_dir().join(format!("vulfsjor-{}", std::process::id()));
         let made = std::fs::OpenOptions::new().read(true).write(true).create_new(true).open(&path);
@@ -365,7 +365,7 @@ mod threads {
     #[test]
     fn a_thread_keeps_its_buffer_and_reports_what_is_hashed() {
         for threads in [1, 3] {
-            let plan = plan_of(1 << 26, 1 << 20, threads, u64::MAX);
+            let plan = plan_for(1 << 26, 1 << 20, threads, u64::MAX);
             let (bytes, buffers) = (AtomicU64::new(0), AtomicUsize::new(0));
             let hash = |part: &Part, _: &mut [u8], buffer: &mut Vec<u8>| {
                 buffers.fetch_add(usize::from(buffer.is_empty()), SeqCst);
@@ -388,8 +388,8 @@ mod threads {
 
     // Parts whose first leaves have more than 32 bits, in a plan and in each call that hashes one.
     #[test]
-    fn parts_past_2_to_the_32_leaves() {
-        let plan = plan_of((1 << 32) + (1 << 15), 1, 3, u64::MAX);
+    fn parts_past_2_to_the_32_leaves_are_right() {
+        let plan = plan_for((1 << 32) + (1 << 15), 1, 3, u64::MAX);
         let hash = |part: &Part, out: &mut [u8], _: &mut Vec<u8>| {
             out[..8].copy_from_slice(&part.first.to_le_bytes());
             Ok::<(), ()>(())
@@ -421,8 +421,8 @@ mod threads {
     #[test]
     fn errors_stop_the_threads() {
         fn run(wrong: u64, report: fn() -> Result<(), &'static str>) -> &'static str {
-            in_time(move || {
-                let plan = plan_of(1 << 34, 1 << 20, 3, u64::MAX);
+            result_within_30_seconds(move || {
+                let plan = plan_for(1 << 34, 1 << 20, 3, u64::MAX);
                 assert_eq!(plan.part_count, 4096);
                 let begun = AtomicUsize::new(0);
                 let hash = |part: &Part, _: &mut [u8], _: &mut Vec<u8>| {
@@ -441,8 +441,8 @@ mod threads {
 
     // While the first part is hashed, the others are, as far as there is room for their digests.
     // Then this part fails, or another one later, and no thread waits for it.
-    fn failing(wrong: u64) -> (&'static str, u8) {
-        let plan = plan_of(1 << 34, 1 << 10, 3, u64::MAX);
+    fn result_of_failing_part(wrong: u64) -> (&'static str, u8) {
+        let plan = plan_for(1 << 34, 1 << 10, 3, u64::MAX);
         let rooms = plan.room() >> 16; // of 1,024 digests each
         assert_eq!((rooms, plan.part_count), (16, 1 << 14));
         let begun = AtomicUsize::new(0);
@@ -472,16 +472,16 @@ mod threads {
 
     #[test]
     fn threads_wait_for_the_first_part() {
-        assert_eq!(in_time(|| failing(0)), ("a part", 0));
-        let (error, absorbed) = in_time(|| failing(100));
+        assert_eq!(result_within_30_seconds(|| result_of_failing_part(0)), ("a part", 0));
+        let (error, absorbed) = result_within_30_seconds(|| result_of_failing_part(100));
         assert_eq!(error, "a part");
         assert!((85..=100).contains(&absorbed), "{absorbed}");
     }
 
     // A message that is longer needs no more room for digests.
     #[test]
-    fn room_is_bounded() {
-        let room = |length, leaf| plan_of(length, leaf, 4, u64::MAX).room();
+    fn room_for_digests_is_bounded() {
+        let room = |length, leaf| plan_for(length, leaf, 4, u64::MAX).room();
         for leaf in [1, 64, 100, 1 << 10, 1 << 16, 1 << 20] {
             let most = room(1 << 40, leaf);
             assert_eq!(room(1 << 57, leaf), most);
@@ -491,10 +491,10 @@ mod threads {
     }
 
     // Whether this number of threads hash at the same time: each part waits for the others.
-    fn meet(threads: usize) -> bool {
+    fn threads_hash_at_the_same_time(threads: usize) -> bool {
         let least = LEAST_BYTES as u32;
         let bytes = vec![0; threads * least as usize];
-        let plan = plan_of(bytes.len() as u64, least, threads, u64::MAX);
+        let plan = plan_for(bytes.len() as u64, least, threads, u64::MAX);
         let seen = Mutex::new(HashSet::new());
         let start = Instant::now();
         let hash = |_: &Part, _: &[u8], _: &mut [u8]| {
@@ -511,7 +511,7 @@ mod threads {
 
     #[test]
     fn as_many_threads_hash_as_are_asked_for() {
-        assert!(meet(1) && meet(2) && meet(5));
+        assert!([1, 2, 5].into_iter().all(threads_hash_at_the_same_time));
     }
 }
 
@@ -521,7 +521,7 @@ mod files {
     use std::io::{Error, ErrorKind, Result};
 
     // Fills ten bytes from the offset 5 of these, three at a time. The second read is interrupted.
-    fn ten_of(data: &[u8]) -> Result<[u8; 10]> {
+    fn ten_bytes_by_short_reads(data: &[u8]) -> Result<[u8; 10]> {
         let mut bytes = [0; 10];
         let mut reads = 0;
         fill(&mut bytes, 5, |bytes, start| {
@@ -540,9 +540,9 @@ mod files {
     #[test]
     fn a_buffer_is_filled_by_several_reads() {
         let data: std::vec::Vec<u8> = (0..40).collect();
-        assert_eq!(ten_of(&data).unwrap(), data[5..15]);
-        assert_eq!(ten_of(&data[..15]).unwrap(), data[5..15]);
-        let kind = ten_of(&data[..14]).unwrap_err().kind();
+        assert_eq!(ten_bytes_by_short_reads(&data).unwrap(), data[5..15]);
+        assert_eq!(ten_bytes_by_short_reads(&data[..15]).unwrap(), data[5..15]);
+        let kind = ten_bytes_by_short_reads(&data[..14]).unwrap_err().kind();
         assert_eq!(kind, ErrorKind::UnexpectedEof);
         let refused = fill(&mut [0; 2], 0, |_, _| Err(Error::from(ErrorKind::Other)));
         assert_eq!(refused.unwrap_err().kind(), ErrorKind::Other);
@@ -575,7 +575,7 @@ mod choice {
     // A processor that is made up: level 4, its bits cleared one by one, and each set of registers
     // that a system may save.
     #[test]
-    fn the_level_of_made_up_processors() {
+    fn level_needs_each_feature_and_register() {
         const ALL: [u32; 3] = [0x38d8_3201 | 1 << 20, 0xd003_0128, 0x21];
         let level = |[first, seventh, extended]: [u32; 3], saved| {
             level_of(&Leaves { first, seventh, extended }, || {

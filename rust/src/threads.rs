@@ -72,13 +72,13 @@ impl Plan {
     }
 
     // The number of bytes of the digests of a part, unless it is the last.
-    fn part_room(&self) -> usize {
+    fn digests_length_of_part(&self) -> usize {
         (self.part_length / self.leaf_length) as usize * DIGEST_BYTES
     }
 
     // Room for the digests of the parts that are not absorbed yet.
     pub(crate) fn room(&self) -> usize {
-        let room = self.part_room();
+        let room = self.digests_length_of_part();
         let parts = (WAITING_BYTES / room).max((2 * self.threads) as usize);
         parts.min(self.part_count as usize) * room
     }
@@ -95,15 +95,15 @@ impl Plan {
         absorb: impl FnMut(&[u8]) + Send,
         mut report: impl FnMut(u64) -> Result<(), E>,
     ) -> Result<(), E> {
-        let parts = Parts::new(room.chunks_mut(self.part_room().max(1)), absorb);
+        let parts = Parts::new(room.chunks_mut(self.digests_length_of_part().max(1)), absorb);
         let (hashed, failed) = (AtomicU64::new(0), Mutex::new(None));
         let run = |report: &mut dyn FnMut(u64) -> Result<(), E>| {
             let _stop = StopAtEnd(&parts);
             let mut buffer = Vec::new();
-            while let Some((i, part, out)) = parts.take(self) {
+            while let Some((i, part, out)) = parts.take_next_part(self) {
                 let length = part.digests_length as usize;
                 hash(&part, &mut out[..length], &mut buffer)?;
-                parts.put(i, out, length);
+                parts.put_digests_of_part(i, out, length);
                 report(hashed.fetch_add(part.length, Relaxed) + part.length)?;
             }
             Ok(())
@@ -185,7 +185,7 @@ impl<'a, A: FnMut(&[u8])> Parts<'a, A> {
 
     // The next part with its number, as soon as there is room for its digests, or nothing if no
     // part is left. The first part that is not absorbed has room, so one that waits gets some.
-    fn take(&self, plan: &Plan) -> Option<(u64, Part, &'a mut [u8])> {
+    fn take_next_part(&self, plan: &Plan) -> Option<(u64, Part, &'a mut [u8])> {
         let mut order = self.lock();
         loop {
             let (i, part) = (order.next, plan.part(order.next)?);
@@ -201,7 +201,7 @@ impl<'a, A: FnMut(&[u8])> Parts<'a, A> {
     }
 
     // Absorbs the digests of part i, and of those after it that are done, if it is the next.
-    fn put(&self, i: u64, room: &'a mut [u8], length: usize) {
+    fn put_digests_of_part(&self, i: u64, room: &'a mut [u8], length: usize) {
         let mut guard = self.lock();
         let order = &mut *guard;
         order.done.insert(i, (room, length));
@@ -250,7 +250,7 @@ impl TreeParams<'_> {
         threads: usize,
     ) -> Result<Digest, InvalidArgument> {
         let message = message.as_ref();
-        self.accept()?;
+        self.check_accepted_by_tree()?;
         // No slice has 2^58 bytes, since addresses have fewer than 58 bits.
         let limits = Limits::of(threads, u64::MAX);
         let plan = Plan::of_message(message.len() as u64, self.leaf_length, &limits)

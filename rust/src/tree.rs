@@ -17,7 +17,7 @@ pub struct TreeHasher {
 
 impl TreeHasher {
     // A hasher that refuses every call, before the library initializes it.
-    pub(crate) fn of_no_tree() -> Self {
+    pub(crate) fn uninitialized() -> Self {
         library::panic_without_build();
         TreeHasher {
             state: TreeState::ZEROS,
@@ -69,8 +69,8 @@ impl TreeHasher {
                 leaves.len(),
             )
         };
-        InvalidArgument::unless_zero(status, || {
-            self.check_next(skip, leaves.len() as u64, digests.len() as u64)
+        InvalidArgument::ok_if_status_is_zero(status, || {
+            self.check_leaves_ahead(skip, leaves.len() as u64, digests.len() as u64)
         })
     }
 
@@ -104,8 +104,8 @@ impl TreeHasher {
                 input.len(),
             )
         };
-        InvalidArgument::unless_zero(status, || {
-            self.check_update(digests.len() as u64, input.len() as u64)
+        InvalidArgument::ok_if_status_is_zero(status, || {
+            self.check_update_leaves(digests.len() as u64, input.len() as u64)
         })?;
         Ok(self)
     }
@@ -142,7 +142,7 @@ impl TreeHasher {
     // An error unless the hasher is at a leaf boundary. Otherwise the number of bytes that more
     // input may have.
     #[inline]
-    fn check_boundary(&self) -> Result<u64, InvalidArgument> {
+    fn check_is_at_leaf_boundary(&self) -> Result<u64, InvalidArgument> {
         let leaf_length = u64::from(self.leaf_length());
         check_range("leaf_length()", leaf_length, 1, u32::MAX.into())?;
         check("count()", self.count(), Bounds::Multiple(leaf_length))?;
@@ -151,9 +151,9 @@ impl TreeHasher {
 
     // Why `leaves_ahead` refuses this.
     #[inline]
-    fn check_next(&self, skip: u64, length: u64, room: u64) -> Result<(), InvalidArgument> {
+    fn check_leaves_ahead(&self, skip: u64, length: u64, room: u64) -> Result<(), InvalidArgument> {
         let leaf_length = u64::from(self.leaf_length());
-        let rest = self.check_boundary()?;
+        let rest = self.check_is_at_leaf_boundary()?;
         check(
             "leaves.len()",
             length,
@@ -166,12 +166,12 @@ impl TreeHasher {
 
     // Why `update_leaves` refuses this.
     #[inline]
-    fn check_update(&self, digests: u64, length: u64) -> Result<(), InvalidArgument> {
+    fn check_update_leaves(&self, digests: u64, length: u64) -> Result<(), InvalidArgument> {
         check("digests.len()", digests, Bounds::Multiple(64))?;
         if digests == 0 {
             return check_range("input.len()", length, 0, MOST_BYTES - self.count());
         }
-        let rest = self.check_boundary()?;
+        let rest = self.check_is_at_leaf_boundary()?;
         let leaf_length = u64::from(self.leaf_length());
         let most = rest.saturating_sub(1) / leaf_length;
         check_range("digests.len()", digests, 0, most.saturating_mul(64))?;
@@ -198,4 +198,4 @@ impl Drop for TreeHasher {
     }
 }
 
-of_stream!(TreeHasher);
+impl_stream_methods!(TreeHasher);

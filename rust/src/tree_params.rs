@@ -98,19 +98,19 @@ impl<'a> TreeParams<'a> {
                 leaf_length,
             )
         };
-        self.root_by(write, || self.check())
+        self.root_by_library_call(write, || self.check())
     }
 
     // The root that a call of the library writes into its room, or the argument that it refused.
     #[inline]
-    fn root_by(
+    fn root_by_library_call(
         &self,
         write: impl FnOnce(&mut [u8]) -> i32,
         explain: impl FnOnce() -> Result<(), InvalidArgument>,
     ) -> Result<Digest, InvalidArgument> {
         let mut root = Digest::zeros(self.output_size);
         let status = root.bytes.get_mut(..self.output_size).map_or(-1, write);
-        InvalidArgument::unless_zero(status, explain).map(|()| root)
+        InvalidArgument::ok_if_status_is_zero(status, explain).map(|()| root)
     }
 
     /// Returns a hasher for a message that comes in pieces.
@@ -120,7 +120,7 @@ impl<'a> TreeParams<'a> {
     /// As [`root`](Self::root).
     #[inline]
     pub fn hasher(&self) -> Result<TreeHasher, InvalidArgument> {
-        let mut hasher = TreeHasher::of_no_tree();
+        let mut hasher = TreeHasher::uninitialized();
         let TreeParams {
             leaf_length,
             output_size,
@@ -140,7 +140,7 @@ impl<'a> TreeParams<'a> {
                 leaf_length,
             )
         };
-        InvalidArgument::unless_zero(status, || self.check()).map(|()| hasher)
+        InvalidArgument::ok_if_status_is_zero(status, || self.check()).map(|()| hasher)
     }
 
     /// Returns the number of leaves of a message of this number of bytes, which is at least 1; 0 if
@@ -214,7 +214,7 @@ impl<'a> TreeParams<'a> {
                 leaf_length,
             )
         };
-        InvalidArgument::unless_zero(status, || {
+        InvalidArgument::ok_if_status_is_zero(status, || {
             self.check_range(bytes.len() as u64, first, ends, digests.len() as u64)
         })
     }
@@ -249,7 +249,7 @@ impl<'a> TreeParams<'a> {
                 leaf_length,
             )
         };
-        self.root_by(write, || {
+        self.root_by_library_call(write, || {
             self.check()?;
             check(
                 "digests.len()",
@@ -262,12 +262,12 @@ impl<'a> TreeParams<'a> {
     // An error unless a tree accepts the parameters.
     #[cfg(feature = "std")]
     #[inline]
-    pub(crate) fn accept(&self) -> Result<(), InvalidArgument> {
+    pub(crate) fn check_accepted_by_tree(&self) -> Result<(), InvalidArgument> {
         let (salt, persona) = (self.salt.len(), self.persona.len());
         // Safety: the call accepts any numbers.
         let status =
             unsafe { library::tree_check(self.output_size, salt, persona, self.leaf_length) };
-        InvalidArgument::unless_zero(status, || self.check())
+        InvalidArgument::ok_if_status_is_zero(status, || self.check())
     }
 
     // Why the parameters are refused.

@@ -62,7 +62,7 @@ macro_rules! xof {
                     )
                 };
                 let rest = Params { output_size: None, ..*params };
-                InvalidArgument::unless_zero(status, || rest.check(&$limits))?;
+                InvalidArgument::ok_if_status_is_zero(status, || rest.check(&$limits))?;
                 Ok(hasher)
             }
 
@@ -156,7 +156,7 @@ macro_rules! xof {
                         context.len(),
                     )
                 };
-                InvalidArgument::unless_zero(status, || {
+                InvalidArgument::ok_if_status_is_zero(status, || {
                     check_range("key.len()", key.len() as u64, 1, $max)?;
                     check_range("out.len()", out.len() as u64, 1, $unknown - 1)
                 })
@@ -187,7 +187,7 @@ macro_rules! xof {
             }
         }
 
-        of_stream!($hasher);
+        impl_stream_methods!($hasher);
 
         #[doc = concat!("The output of ", $family, ", which is read in pieces. It is wiped when it")]
         /// is dropped.
@@ -209,7 +209,7 @@ macro_rules! xof {
                 // Safety: the output has this length, and does not overlap the state.
                 let status =
                     unsafe { library::$squeeze(&mut self.state, out.as_mut_ptr(), out.len()) };
-                InvalidArgument::unless_zero(status, || {
+                InvalidArgument::ok_if_status_is_zero(status, || {
                     check_range("out.len()", out.len() as u64, 0, self.left())
                 })
             }

@@ -15,7 +15,7 @@ use vulfsjor::*;
 const COUNTS: [usize; 11] = [0, 1, 3, 4, 5, 7, 8, 9, 16, 17, 33];
 
 // A value's bytes, before it is dropped and after.
-fn bytes_around_drop<T>(value: T) -> [Vec<u8>; 2] {
+fn bytes_before_and_after_drop<T>(value: T) -> [Vec<u8>; 2] {
     let mut slot = MaybeUninit::new(value);
     // Safety: the types here have no padding, and a drop writes only bytes of the value.
     let look = |slot: &MaybeUninit<T>| unsafe {
@@ -33,16 +33,16 @@ fn contains_bytes(bytes: &[u8], text: &[u8]) -> bool {
 
 // The bytes of the stack that calls before this one have used.
 #[inline(never)]
-fn dead_stack() -> Vec<u8> {
+fn read_dead_stack() -> Vec<u8> {
     let room = MaybeUninit::<[u8; 1 << 16]>::uninit();
     let start = room.as_ptr().cast::<u8>();
     // Safety: the bytes are the frame's, and are only looked at.
     (0..1 << 16).map(|i| unsafe { start.add(i).read_volatile() }).collect()
 }
 
-// Calls below 2 KiB of the stack, so that the frame of `dead_stack` overwrites nothing of the call.
+// Calls below 2 KiB of the stack, so that the frame of `read_dead_stack` overwrites nothing of the call.
 #[inline(never)]
-fn call_deeper(call: &dyn Fn()) {
+fn call_deeper_in_the_stack(call: &dyn Fn()) {
     let mut room = [0; 2048];
     // Safety: both are a byte of the array.
     unsafe { room.as_mut_ptr().write_volatile(7u8) };
@@ -51,17 +51,17 @@ fn call_deeper(call: &dyn Fn()) {
 }
 
 // How many of the 8 bytes' pieces of the key are on the stack after the call, in a new thread.
-fn pieces_left(key: &[u8], call: &(dyn Fn() + Sync)) -> usize {
+fn count_key_pieces_left(key: &[u8], call: &(dyn Fn() + Sync)) -> usize {
     let left = || {
-        call_deeper(call);
-        let stack = dead_stack();
+        call_deeper_in_the_stack(call);
+        let stack = read_dead_stack();
         key.chunks(8).filter(|piece| contains_bytes(&stack, piece)).count()
     };
     std::thread::scope(|scope| scope.spawn(left).join().unwrap())
 }
 
 // Parameters of a node, and what is said of each where there are no nodes.
-fn of_nodes() -> [(Params<'static>, &'static str); 7] {
+fn node_params_and_errors() -> [(Params<'static>, &'static str); 7] {
     let (new, tree) = (Params::new(), Tree::SEQUENTIAL);
     [
         (new.last_node(true), "last_node is 1, and must be 0"),
@@ -98,7 +98,7 @@ macro_rules! family {
                     for other in [count + 1, count + 256, 16].into_iter().filter(|other| *other != count) {
                         refused(new(), count, other, &format!("digests.len() is {other}, and must be {count}"));
                     }
-                    for (params, said) in of_nodes().into_iter().chain(others) {
+                    for (params, said) in node_params_and_errors().into_iter().chain(others) {
                         refused(params, count, count, said);
                     }
                     assert!($hasher::digest_many(&new(), &vec![b"x"; count], &mut vec![[7; 1]; count]).is_ok());
@@ -174,7 +174,7 @@ macro_rules! family {
                 let hasher = Box::new(Params::new().key(&key).$make().unwrap());
                 let mac = Box::new($mac::new(&key).unwrap());
                 let tag = mac.finalize();
-                let left = |call: &(dyn Fn() + Sync)| pieces_left(&key, call);
+                let left = |call: &(dyn Fn() + Sync)| count_key_pieces_left(&key, call);
                 assert_eq!(left(&|| assert_eq!(hasher.finalize(), tag)), 0);
                 assert_eq!(left(&|| assert_eq!(mac.finalize(), tag)), 0);
                 assert_eq!(left(&|| assert!(mac.verify(tag.as_bytes()).is_ok())), 0);
@@ -283,8 +283,8 @@ fn digests_are_shown_in_digits() {
 }
 
 #[test]
-fn families_without_nodes() {
-    for (params, said) in of_nodes() {
+fn node_params_are_refused_without_nodes() {
+    for (params, said) in node_params_and_errors() {
         let keyed = params.key(b"k");
         let all = [params.blake2bp().err(), params.blake2sp().err(), params.blake2xb().err(), params.blake2xs().err()];
         let macs = [Blake2bpMac::with_params(&keyed).err(), Blake2spMac::with_params(&keyed).err()];
@@ -292,7 +292,7 @@ fn families_without_nodes() {
     }
 }
 
-macro_rules! short_tags {
+macro_rules! short_tag_test {
     ($test:ident, $mac:ident, $make:ident, $make_mac:ident, $max:literal) => {
         // A MAC has at least 16 bytes, unless the caller says otherwise. A hasher has any length.
         #[test]
@@ -329,12 +329,12 @@ macro_rules! short_tags {
     };
 }
 
-short_tags!(short_tags_of_blake2b, Blake2bMac, blake2b, blake2b_mac, 64);
-short_tags!(short_tags_of_blake2s, Blake2sMac, blake2s, blake2s_mac, 32);
-short_tags!(short_tags_of_blake2bp, Blake2bpMac, blake2bp, blake2bp_mac, 64);
-short_tags!(short_tags_of_blake2sp, Blake2spMac, blake2sp, blake2sp_mac, 32);
+short_tag_test!(blake2b_tags_need_16_bytes, Blake2bMac, blake2b, blake2b_mac, 64);
+short_tag_test!(blake2s_tags_need_16_bytes, Blake2sMac, blake2s, blake2s_mac, 32);
+short_tag_test!(blake2bp_tags_need_16_bytes, Blake2bpMac, blake2bp, blake2bp_mac, 64);
+short_tag_test!(blake2sp_tags_need_16_bytes, Blake2spMac, blake2sp, blake2sp_mac, 32);
 
-macro_rules! ends_of_outputs {
+macro_rules! output_end_test {
     ($test:ident, $hasher:ident, $make:ident, $most:literal, $whole:expr) => {
         #[test]
         fn $test() {
@@ -363,8 +363,8 @@ macro_rules! ends_of_outputs {
         }
     };
 }
-ends_of_outputs!(ends_of_outputs_of_blake2xb, Blake2xb, blake2xb, 4294967294u64, 64 << 32);
-ends_of_outputs!(ends_of_outputs_of_blake2xs, Blake2xs, blake2xs, 65534, 32 << 32);
+output_end_test!(ends_of_outputs_of_blake2xb, Blake2xb, blake2xb, 4294967294u64, 64 << 32);
+output_end_test!(ends_of_outputs_of_blake2xs, Blake2xs, blake2xs, 65534, 32 << 32);
 
 #[test]
 fn nothing_is_left_of_a_key_or_a_message() {
@@ -376,22 +376,22 @@ fn nothing_is_left_of_a_key_or_a_message() {
     let mut tree = TreeParams::new(1000).salt(b"salt").hasher().unwrap();
     tree.update([7; 2400]).update(&key);
     for (i, [before, after]) in [
-        bytes_around_drop(params.blake2b().unwrap()),
-        bytes_around_drop(params.blake2s().unwrap()),
-        bytes_around_drop(params.blake2bp().unwrap()),
-        bytes_around_drop(params.blake2sp().unwrap()),
-        bytes_around_drop(params.blake2b().unwrap().clone()),
-        bytes_around_drop(params.blake2s().unwrap().clone()),
-        bytes_around_drop(Blake2bMac::new(&key).unwrap()),
-        bytes_around_drop(Blake2sMac::new(&key).unwrap()),
-        bytes_around_drop(Blake2bpMac::new(&key).unwrap()),
-        bytes_around_drop(Blake2spMac::new(&key).unwrap()),
-        bytes_around_drop(xb.finalize_xof()),
-        bytes_around_drop(xs.finalize_xof()),
-        bytes_around_drop(xb),
-        bytes_around_drop(xs),
-        bytes_around_drop(hasher),
-        bytes_around_drop(tree),
+        bytes_before_and_after_drop(params.blake2b().unwrap()),
+        bytes_before_and_after_drop(params.blake2s().unwrap()),
+        bytes_before_and_after_drop(params.blake2bp().unwrap()),
+        bytes_before_and_after_drop(params.blake2sp().unwrap()),
+        bytes_before_and_after_drop(params.blake2b().unwrap().clone()),
+        bytes_before_and_after_drop(params.blake2s().unwrap().clone()),
+        bytes_before_and_after_drop(Blake2bMac::new(&key).unwrap()),
+        bytes_before_and_after_drop(Blake2sMac::new(&key).unwrap()),
+        bytes_before_and_after_drop(Blake2bpMac::new(&key).unwrap()),
+        bytes_before_and_after_drop(Blake2spMac::new(&key).unwrap()),
+        bytes_before_and_after_drop(xb.finalize_xof()),
+        bytes_before_and_after_drop(xs.finalize_xof()),
+        bytes_before_and_after_drop(xb),
+        bytes_before_and_after_drop(xs),
+        bytes_before_and_after_drop(hasher),
+        bytes_before_and_after_drop(tree),
     ]
     .into_iter()
     .enumerate()
@@ -402,7 +402,7 @@ fn nothing_is_left_of_a_key_or_a_message() {
 }
 
 #[test]
-fn errors_and_defaults() {
+fn errors_convert_and_defaults_are_unkeyed() {
     let tags = [Blake2bMac::tag(b"", b"x"), Blake2sMac::tag(b"", b"x"), Blake2bpMac::tag(b"", b"x")];
     for error in tags.map(Result::unwrap_err).into_iter().chain(Blake2spMac::tag(b"", b"x").err()) {
         assert_eq!((error.argument(), error.value()), ("key.len()", 0));
@@ -424,25 +424,25 @@ fn errors_and_defaults() {
 }
 
 // A digest of the bytes 0x07, 0x1e, 0x35 .., and its digits.
-fn made_up(size: usize) -> (Vec<u8>, String) {
+fn digest_and_its_digits(size: usize) -> (Vec<u8>, String) {
     let bytes: Vec<u8> = (0..size).map(|i| (23 * i + 7) as u8).collect();
     let digits = bytes.iter().map(|byte| format!("{byte:02x}")).collect();
     (bytes, digits)
 }
 
 #[test]
-fn digests_are_read_back() {
+fn digests_are_parsed_from_their_digits() {
     for size in 1..=64 {
-        let (bytes, digits) = made_up(size);
+        let (bytes, digits) = digest_and_its_digits(size);
         let digest = Digest::from_hex(&digits).unwrap();
         assert_eq!(digest, bytes);
         assert_eq!(digest.to_string(), digits);
         assert_eq!(digits.to_uppercase().parse(), Ok(digest));
         assert_eq!(Digest::try_from(&bytes[..]), Ok(digest));
     }
-    assert_eq!(Digest::from([7]), made_up(1).0);
-    assert_eq!(Digest::from([7, 30, 53]), made_up(3).0);
-    let longest: [u8; 64] = made_up(64).0.try_into().unwrap();
+    assert_eq!(Digest::from([7]), digest_and_its_digits(1).0);
+    assert_eq!(Digest::from([7, 30, 53]), digest_and_its_digits(3).0);
+    let longest: [u8; 64] = digest_and_its_digits(64).0.try_into().unwrap();
     assert_eq!(Digest::from(longest), longest);
     // Each has the hash of its bytes.
     let digests = HashMap::from([(Digest::from([1, 2]), "here"), (Digest::from(longest), "there")]);
@@ -451,7 +451,7 @@ fn digests_are_read_back() {
 }
 
 #[test]
-fn what_is_no_digest_is_refused() {
+fn wrong_digest_texts_are_refused() {
     let long = [b'1'; 300];
     for length in (1..=129).step_by(2).chain([0, 130, 256, 258]) {
         let refused = Err(HexError::Length(length));
@@ -485,7 +485,7 @@ fn what_is_no_digest_is_refused() {
 
 // A hasher is loaded from a slice of any length, and goes on alone. Of a key nothing is saved.
 #[test]
-fn saved_states() {
+fn saved_states_load_and_keyed_do_not_save() {
     macro_rules! family {
         ($type:ident, $hasher:ident, $other:ident, $size:literal) => {
             let mut hasher = Params::new().output_size(9).persona(b"saved").$hasher().unwrap();

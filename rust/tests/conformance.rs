@@ -7,7 +7,7 @@
 #[allow(dead_code)]
 mod common;
 
-use common::{bytes, done, hex, run, yes_or_no, Driver, Given};
+use common::{bytes, no_value, hex, run, yes_or_no, Driver, Given};
 use std::io::{Read, Write};
 use std::panic::{catch_unwind, AssertUnwindSafe};
 use vulfsjor::*;
@@ -16,7 +16,7 @@ type Outcome = common::Outcome<InvalidArgument>;
 type Made = Result<Box<dyn common::Hash<InvalidArgument>>, InvalidArgument>;
 
 /// The names that errors have for an argument of a hash, and its least and its most if no other arguments decide.
-fn named(argument: &str, hash: &str) -> (&'static str, Option<(u64, u64)>) {
+fn argument_name_and_bounds(argument: &str, hash: &str) -> (&'static str, Option<(u64, u64)>) {
     let is_s = hash.starts_with("blake2s") || hash == "blake2xs";
     let (most, small) = if is_s { (32, 8) } else { (64, 16) };
     match (argument, hash) {
@@ -41,7 +41,7 @@ fn named(argument: &str, hash: &str) -> (&'static str, Option<(u64, u64)>) {
 }
 
 /// Writes by a call into room of this length. A call that is refused writes nothing.
-fn write(length: usize, call: impl Fn(&mut [u8]) -> Result<(), InvalidArgument>) -> Outcome {
+fn write_into_room(length: usize, call: impl Fn(&mut [u8]) -> Result<(), InvalidArgument>) -> Outcome {
     let mut out = vec![0xaa; length];
     let status = call(&mut out);
     assert!(status.is_ok() || out.iter().all(|byte| *byte == 0xaa));
@@ -49,12 +49,12 @@ fn write(length: usize, call: impl Fn(&mut [u8]) -> Result<(), InvalidArgument>)
 }
 
 /// The same for the digests of leaves, which also need as much room as that.
-fn write_digests(count: usize, call: impl Fn(&mut [u8]) -> Result<(), InvalidArgument>) -> Outcome {
+fn write_digests_into_room(count: usize, call: impl Fn(&mut [u8]) -> Result<(), InvalidArgument>) -> Outcome {
     let room = 64 * count;
     for other in [0, room.saturating_sub(64), room.saturating_sub(1), room + 1, room + 64] {
-        assert!(other == room || write(other, &call).unwrap().is_err());
+        assert!(other == room || write_into_room(other, &call).unwrap().is_err());
     }
-    write(room, call)
+    write_into_room(room, call)
 }
 
 /// A hasher, with what it was before its input, and the MAC with the same input if it has a key.
@@ -80,7 +80,7 @@ macro_rules! sequential {
                 if let Some(mac) = &mut self.mac {
                     mac.update(one).write_all(other).unwrap();
                 }
-                done()
+                no_value()
             }
             fn digest(&mut self) -> Outcome {
                 let digest = self.hasher.finalize();
@@ -100,7 +100,7 @@ macro_rules! sequential {
             fn reset(&mut self) -> Outcome {
                 self.hasher.reset();
                 self.mac.iter_mut().for_each(|mac| mac.reset());
-                done()
+                no_value()
             }
             fn verify(&mut self, tag: &[u8]) -> Outcome {
                 let is_right = self.hasher.finalize() == *tag;
@@ -112,7 +112,7 @@ macro_rules! sequential {
                 self.hasher.$last(on);
                 self.start.$last(on);
                 self.mac = None; // a MAC has no such call
-                done()
+                no_value()
             }
             fn save(&mut self) -> Outcome {
                 let saved = self.hasher.save();
@@ -184,7 +184,7 @@ macro_rules! output {
                 }
                 let (one, other) = message.split_at(message.len() / 2);
                 self.0.update(one).write_all(other).unwrap();
-                done()
+                no_value()
             }
             fn count(&mut self) -> Outcome {
                 Some(Ok(format!("= {}", self.0.count())))
@@ -192,7 +192,7 @@ macro_rules! output {
             fn reset(&mut self) -> Outcome {
                 self.0.reset();
                 self.1 = None;
-                done()
+                no_value()
             }
             fn left(&mut self) -> Outcome {
                 let left = self.1.as_ref().map_or_else(|| self.0.finalize_xof().left(), |reader| reader.left());
@@ -227,7 +227,7 @@ impl common::Hash<InvalidArgument> for TreeHasher {
     fn update(&mut self, message: &[u8]) -> Outcome {
         let (one, other) = message.split_at(message.len() / 2);
         TreeHasher::update(self, one).write_all(other).unwrap();
-        done()
+        no_value()
     }
     fn digest(&mut self) -> Outcome {
         assert_eq!(self.finalize(), self.clone().finalize());
@@ -238,7 +238,7 @@ impl common::Hash<InvalidArgument> for TreeHasher {
     }
     fn next(&mut self, skip: u64, leaves: &[u8]) -> Outcome {
         let count = leaves.len() / self.leaf_length() as usize;
-        write_digests(count, |out| self.leaves_ahead(skip, leaves, out))
+        write_digests_into_room(count, |out| self.leaves_ahead(skip, leaves, out))
     }
     fn absorb(&mut self, leaves: &[u8], message: &[u8]) -> Outcome {
         let (leaf_length, count) = (self.leaf_length() as usize, TreeHasher::count(self));
@@ -252,7 +252,7 @@ impl common::Hash<InvalidArgument> for TreeHasher {
 }
 
 /// Calls with the parameters of a tree, if Rust has types for their values.
-fn tree<R>(given: &Given, call: impl FnOnce(&TreeParams) -> Option<R>) -> Option<R> {
+fn with_tree_params<R>(given: &Given, call: impl FnOnce(&TreeParams) -> Option<R>) -> Option<R> {
     let [salt, persona] = [given.text("salt")?, given.text("person")?];
     let params = TreeParams::new(given.number("leaf", 0)?).salt(&salt).persona(&persona);
     if given.has("size") {
@@ -262,7 +262,7 @@ fn tree<R>(given: &Given, call: impl FnOnce(&TreeParams) -> Option<R>) -> Option
 }
 
 /// Several messages, into arrays of this length: the parameters need not have it too.
-fn many<const N: usize>(name: &str, messages: &[Vec<u8>], given: &Given) -> Outcome {
+fn digest_many_by_arrays<const N: usize>(name: &str, messages: &[Vec<u8>], given: &Given) -> Outcome {
     let mut digests = vec![[0xaa; N]; messages.len()];
     let mut of = |params: &Params| match name {
         "blake2b" => Blake2b::digest_many(params, messages, &mut digests),
@@ -285,7 +285,7 @@ impl Driver for Crate {
     fn make(&self, name: &str, given: &Given) -> Option<Made> {
         let has_key = given.has("key");
         if name == "tree" {
-            return tree(given, |params| Some(params.hasher().map(|hasher| Box::new(hasher) as _)));
+            return with_tree_params(given, |params| Some(params.hasher().map(|hasher| Box::new(hasher) as _)));
         }
         given.params(|params| Some(match name {
             "blake2b" => blake2b(params, has_key),
@@ -324,7 +324,7 @@ impl Driver for Crate {
                 macro_rules! of_sizes {
                     ($($size:literal)*) => {
                         match given.number("size", if call[1] == "blake2b" { 64 } else { 32 })? {
-                            $($size => many::<$size>(call[1], &messages?, given),)*
+                            $($size => digest_many_by_arrays::<$size>(call[1], &messages?, given),)*
                             _ => None,
                         }
                     };
@@ -342,14 +342,16 @@ impl Driver for Crate {
             }
             "derive" => {
                 let (context, key, size) = (bytes(call[1])?, given.text("key")?, given.number("size", 0)?);
-                (size < 1 << 20).then(|| write(size, |out| Blake2xb::derive_key(&key, &context, out)))?
+                (size < 1 << 20).then(|| write_into_room(size, |out| Blake2xb::derive_key(&key, &context, out)))?
             }
-            "leaves" => tree(given, |params| {
+            "leaves" => with_tree_params(given, |params| {
                 let (message, first) = (bytes(call[1])?, call[2].parse().ok()?);
                 let count = params.leaf_count(message.len() as u64) as usize;
-                write_digests(count, |out| params.leaves(&message, first, call[3] == "1", out))
+                write_digests_into_room(count, |out| params.leaves(&message, first, call[3] == "1", out))
             }),
-            _ => tree(given, |params| Some(params.root_of_leaves(&bytes(call[1])?).map(|root| hex(root.as_bytes())))),
+            _ => with_tree_params(given, |params| {
+                Some(params.root_of_leaves(&bytes(call[1])?).map(|root| hex(root.as_bytes())))
+            }),
         }
     }
 
@@ -359,7 +361,7 @@ impl Driver for Crate {
             "hash" | "many" => call[1],
             other => other,
         };
-        let (names, bounds) = named(argument, hash);
+        let (names, bounds) = argument_name_and_bounds(argument, hash);
         if !names.split(' ').any(|name| error.argument() == name) {
             return false;
         }
@@ -386,7 +388,7 @@ fn hash(name: &str, message: &[u8], given: &Given) -> Outcome {
         "blake2s" => blake2s_hash(message, given)?,
         "blake2bp" => blake2bp_hash(message, given)?,
         "blake2sp" => blake2sp_hash(message, given)?,
-        "tree" => tree(given, |params| {
+        "tree" => with_tree_params(given, |params| {
             let root = params.root(message);
             assert_eq!(params.root_threads(message, 2), root);
             Some(root)
@@ -399,7 +401,7 @@ fn hash(name: &str, message: &[u8], given: &Given) -> Outcome {
 }
 
 #[test]
-fn cases() {
+fn conformance_cases_have_expected_outcomes() {
     let names = ["blake2b", "blake2s", "blake2bp", "blake2sp", "blake2xb", "blake2xs", "tree"];
     run(&Crate, &names, (71571, &[("equal", 25), ("reset", 83), ("skip", 202), ("verify", 108)]));
 }

@@ -32,7 +32,7 @@ const ROOTS: [(u32, usize, &str); 8] = [
         86de0cdb0fcfa5c84af6605fb4dec6bbf327930c6456cb93918ccb6a38c69392"),
 ];
 
-fn message_of(length: usize) -> Vec<u8> {
+fn message_of_length(length: usize) -> Vec<u8> {
     let mut bytes = vec![0; length];
     for (i, part) in bytes.chunks_mut(MIB).enumerate() {
         part.fill((7 * i + 1) as u8);
@@ -68,11 +68,11 @@ fn tree_params(leaf_length: u32) -> TreeParams<'static> {
 
 // Each root by memory, by updates, by a reader and by a file, whose progress is reported.
 #[test]
-fn roots_of_files_and_of_memory() {
+fn root_of_file_is_that_of_memory() {
     let huge = std::env::var_os("VULFSJOR_TEST_HUGE").is_some(); // else not the longest
     let count = ROOTS.len() - usize::from(!huge);
     for (i, (leaf_length, length, wanted)) in ROOTS.into_iter().enumerate().take(count) {
-        let (bytes, params) = (message_of(length), tree_params(leaf_length));
+        let (bytes, params) = (message_of_length(length), tree_params(leaf_length));
         let file = Temporary::with(&format!("roots-{i}"), &bytes);
         for threads in [0, 1, 3] {
             let mut seen = Vec::new();
@@ -110,7 +110,7 @@ fn roots_of_files_and_of_memory() {
 }
 
 #[test]
-fn progress_stops_the_call() {
+fn progress_error_stops_the_call() {
     let file = Temporary::with("stops", b"");
     File::options().write(true).open(&file.0).unwrap().set_len(1 << 32).unwrap();
     for threads in [1, 3] {
@@ -137,8 +137,8 @@ fn progress_stops_the_call() {
 // Both sizes of leaf: of a part, and of a leaf that is read in pieces. A file that loses its last byte
 // is long, so that its end is not read before that.
 #[test]
-fn files_that_change_meanwhile() {
-    let bytes = message_of(18 * MIB);
+fn changed_files_are_errors_or_old_roots() {
+    let bytes = message_of_length(18 * MIB);
     for leaf_length in [1 << 20, 17 << 20] {
         let file = Temporary::with(&format!("changes-{leaf_length}"), &bytes);
         let opened = File::options().write(true).open(&file.0).unwrap();
@@ -156,7 +156,7 @@ fn files_that_change_meanwhile() {
 
 #[cfg(unix)]
 #[test]
-fn other_files() {
+fn pipes_folders_and_absent_files() {
     let params = tree_params(1 << 16);
     for threads in [0, 1, 4] {
         let root = |path: &str| params.root_file(path, threads);
@@ -168,7 +168,7 @@ fn other_files() {
         let pipe = Temporary::new(&format!("pipe-{threads}"));
         assert!(Command::new("mkfifo").arg(&pipe.0).status().unwrap().success());
         std::thread::scope(|scope| {
-            scope.spawn(|| fs::write(&pipe.0, message_of(3 * MIB + 5)).unwrap());
+            scope.spawn(|| fs::write(&pipe.0, message_of_length(3 * MIB + 5)).unwrap());
             assert_eq!(params.root_file(&pipe.0, threads).unwrap().to_hex(), ROOTS[2].2);
         });
     }
@@ -176,7 +176,7 @@ fn other_files() {
 
 // Sparse files, on a file system in memory that has such lengths.
 #[test]
-fn files_of_impossible_lengths() {
+fn files_of_2_to_58_bytes_are_refused() {
     let file = Temporary(format!("/dev/shm/vulfsjor-files-{}", std::process::id()).into());
     let opened = File::create(&file.0).unwrap();
     opened.set_len(1 << 58).unwrap();
@@ -207,12 +207,12 @@ impl<Lengths: Iterator<Item = usize>> Read for Slow<'_, Lengths> {
     }
 }
 
-macro_rules! readers {
+macro_rules! reader_tests {
     ($test:ident, $new:expr) => {
         #[test]
         fn $test() {
             for length in [0, 1, MIB - 1, MIB, MIB + 1, 2 * MIB] {
-                let bytes = message_of(length);
+                let bytes = message_of_length(length);
                 let wanted = $new.update(&bytes).finalize();
                 for lengths in [&[1 << 30][..], &[4096], &[MIB - 1, 1, 3]] {
                     let read = |error| {
@@ -237,16 +237,16 @@ macro_rules! readers {
     };
 }
 
-readers!(readers_of_blake2b, Blake2b::new());
-readers!(readers_of_blake2s, Blake2s::new());
-readers!(readers_of_blake2b_mac, Blake2bMac::new(b"key").unwrap());
-readers!(readers_of_blake2s_mac, Blake2sMac::new(b"key").unwrap());
-readers!(readers_of_trees, tree_params(1 << 16).hasher().unwrap());
+reader_tests!(readers_of_blake2b, Blake2b::new());
+reader_tests!(readers_of_blake2s, Blake2s::new());
+reader_tests!(readers_of_blake2b_mac, Blake2bMac::new(b"key").unwrap());
+reader_tests!(readers_of_blake2s_mac, Blake2sMac::new(b"key").unwrap());
+reader_tests!(readers_of_trees, tree_params(1 << 16).hasher().unwrap());
 
 // What a tree absorbs at a time is a whole buffer, whatever a read returns.
 #[test]
 fn a_reader_fills_the_buffer() {
-    let bytes = message_of(2 * MIB);
+    let bytes = message_of_length(2 * MIB);
     let lengths = RefCell::new(Vec::new());
     struct Count<'a>(&'a RefCell<Vec<usize>>, &'a [u8]);
     impl Read for Count<'_> {

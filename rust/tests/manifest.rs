@@ -4,7 +4,7 @@ use std::path::Path;
 use std::process::Command;
 
 #[test]
-fn the_code_that_runs_is_named() {
+fn build_names_a_file_of_manifest() {
     let dist = Path::new(env!("CARGO_MANIFEST_DIR")).join("dist");
     let (_, name) = vulfsjor::build().split_once("  ").expect("a hash and a name");
     let sum = |program: &str, words: &[&str]| Command::new(program).args(words).arg(name).current_dir(&dist).output();
@@ -18,7 +18,7 @@ fn the_code_that_runs_is_named() {
 }
 
 #[test]
-fn dist_is_as_manifest_says() {
+fn dist_files_have_the_manifest_hashes() {
     let dist = Path::new(env!("CARGO_MANIFEST_DIR")).join("dist");
     let check = |program: &str| Command::new(program).args(["-c", "MANIFEST"]).current_dir(&dist).output();
     let checked = check("sha256sum").or_else(|_| check("shasum")).expect("sha256sum or shasum");

@@ -15,7 +15,7 @@ const TOP: &str = env!("CARGO_MANIFEST_DIR");
 const VERSION: &str = env!("CARGO_PKG_VERSION");
 
 // These builds, or without VULFSJOR_TEST_HUGE only the first of them: others take seconds.
-fn some_builds<T>(builds: &[T]) -> &[T] {
+fn builds_to_test<T>(builds: &[T]) -> &[T] {
     let all = env::var_os("VULFSJOR_TEST_HUGE").is_some();
     &builds[..if all { builds.len() } else { 1 }]
 }
@@ -38,18 +38,19 @@ fn package(name: &str, lines: &str, file: &str, text: &str) -> PathBuf {
 }
 
 // That of this test, which has the crate.
-fn target() -> PathBuf {
+fn target_folder() -> PathBuf {
     Path::new(env!("CARGO_TARGET_TMPDIR")).parent().unwrap().into()
 }
 
 fn cargo(words: &[&str], folder: &Path) -> Command {
     let mut command = Command::new(env!("CARGO"));
-    command.arg(words[0]).arg("--offline").args(&words[1..]).current_dir(folder).env("CARGO_TARGET_DIR", target());
+    command.arg(words[0]).arg("--offline").args(&words[1..]).current_dir(folder);
+    command.env("CARGO_TARGET_DIR", target_folder());
     command
 }
 
 // What a command prints, which has to succeed.
-fn output_of(command: &mut Command) -> String {
+fn output_of_success(command: &mut Command) -> String {
     let Output { status, stdout, stderr } = command.output().unwrap();
     assert!(status.success(), "{command:?}: {}", String::from_utf8_lossy(&stderr));
     String::from_utf8(stdout).unwrap()
@@ -83,8 +84,8 @@ impl Program {
         if !flags.is_empty() {
             cargo.env("CARGO_PROFILE_RELEASE_OPT_LEVEL", "1"); // quicker, and enough to leave out what is never called
         }
-        output_of(cargo.env("RUSTFLAGS", flags));
-        let built = target().join(profile.replace("dev", "debug")).join(&self.name);
+        output_of_success(cargo.env("RUSTFLAGS", flags));
+        let built = target_folder().join(profile.replace("dev", "debug")).join(&self.name);
         let copy = self.folder.join(profile);
         fs::copy(built, &copy).unwrap();
         copy
@@ -101,8 +102,8 @@ fn code() -> String {
 // The functions of a build in a program, of the crate of this version with the code of this number.
 // Each has the name of its text, which ends in the number, and the one by which the crate of that
 // version calls it. All names are local: those of the texts are labels, and the others are hidden.
-fn functions_held(program: &Path, version: &str, code: &str, build: &str) -> Vec<String> {
-    let names = output_of(Command::new("nm").arg(program));
+fn library_functions_in_program(program: &Path, version: &str, code: &str, build: &str) -> Vec<String> {
+    let names = output_of_success(Command::new("nm").arg(program));
     let end = format!("_{code}_{build}");
     let start = format!("vulfsjor_{version}_vulfsjor_ffi_");
     let (mut held, mut called) = (Vec::new(), Vec::new());
@@ -129,7 +130,7 @@ const BUILDS: &[&str] = &["arm"];
 
 // A library with its own panic handler and without an allocator, which links neither std nor alloc.
 #[test]
-fn a_library_without_std() {
+fn library_without_std_links() {
     let manifest = "[lib]\ncrate-type = [\"staticlib\"]\n[profile.dev]\npanic = \"abort\"\n\
                     [dependencies.vulfsjor]\ndefault-features = false\n";
     let lines = r#"#![no_std]
@@ -142,24 +143,24 @@ fn a_library_without_std() {
             loop {}
         }"#;
     let folder = package("bare", &format!("{manifest}path = \"{TOP}\"\n"), "lib.rs", lines);
-    output_of(&mut cargo(&["build"], &folder));
+    output_of_success(&mut cargo(&["build"], &folder));
 }
 
 // If the compiler may assume AVX2 or AVX-512, the other builds are left out. Earlier versions of
 // rustc do not name all these features.
 #[test]
 #[cfg(target_arch = "x86_64")]
-fn one_build_if_the_target_has_its_features() {
-    for (cpu, last) in some_builds(&[("v3", "\"movbe\""), ("v4", "\"avx512vl\"")]) {
+fn one_build_is_linked_for_its_target() {
+    for (cpu, last) in builds_to_test(&[("v3", "\"movbe\""), ("v4", "\"avx512vl\"")]) {
         let flag = format!("-Ctarget-cpu=x86-64-{cpu}");
-        if !output_of(Command::new("rustc").args(["--print", "cfg", &flag])).contains(*last) {
+        if !output_of_success(Command::new("rustc").args(["--print", "cfg", &flag])).contains(*last) {
             continue;
         }
         let program = Program::new(&format!("only_{cpu}"), PRINT_ABC, &[TOP.as_ref()]);
         let built = program.build("release", &flag);
         for build in BUILDS {
             let wanted: &[&str] = if build == cpu { &["blake2b"] } else { &[] };
-            assert_eq!(functions_held(&built, VERSION, &code(), build), wanted, "{flag}");
+            assert_eq!(library_functions_in_program(&built, VERSION, &code(), build), wanted, "{flag}");
         }
     }
 }
@@ -169,7 +170,7 @@ fn one_build_if_the_target_has_its_features() {
 #[test]
 #[cfg(target_arch = "x86_64")]
 #[ignore = "needs qemu-x86_64"]
-fn the_first_call_on_other_processors() {
+fn first_call_works_on_other_processors() {
     let lines = r#"let (new, tree) = (a::Params::new(), a::TreeParams::new(1));
         let (key, mut digests) = (new.key(b"k"), [[0; 64]; 1]);
         for call in std::env::args().skip(1) {
@@ -218,7 +219,7 @@ fn renew_sums(dist: &Path) {
     let manifest = fs::read_to_string(dist.join("MANIFEST")).unwrap();
     let lines = manifest.lines().map(|line| match line.split_once("  ") {
         Some((_, name)) if dist.join(name).exists() => {
-            output_of(Command::new("sha256sum").arg(name).current_dir(dist))
+            output_of_success(Command::new("sha256sum").arg(name).current_dir(dist))
         }
         _ => format!("{line}\n"),
     });
@@ -230,24 +231,24 @@ fn renew_sums(dist: &Path) {
 // number in the names of its texts, as in those of dist/. The program contains of the assembly what it calls,
 // and no name that another object could see.
 #[test]
-fn the_package_next_to_another_version() {
+fn package_links_next_to_another_version() {
     let folder = folder("package");
     // Without a build of cargo's: one of what is in the package follows.
     let mut package = cargo(&["package", "--allow-dirty", "--no-verify"], TOP.as_ref());
-    output_of(package.env("CARGO_HOME", folder.join("home")));
-    let file = target().join(format!("package/vulfsjor-{VERSION}.crate"));
-    output_of(Command::new("tar").arg("-C").arg(&folder).arg("-xzf").arg(&file));
+    output_of_success(package.env("CARGO_HOME", folder.join("home")));
+    let file = target_folder().join(format!("package/vulfsjor-{VERSION}.crate"));
+    output_of_success(Command::new("tar").arg("-C").arg(&folder).arg("-xzf").arg(&file));
     let root = folder.join(format!("vulfsjor-{VERSION}"));
     let listed = fs::read_to_string(Path::new(TOP).join("packaging/files.txt")).unwrap();
     let listed = listed.lines().filter_map(|line| line.strip_prefix("vulfsjor.crate: vulfsjor-VERSION/"));
     let mut find = Command::new("find");
-    let found = output_of(find.args(["-type", "f", "-printf", "%P\\n"]).current_dir(&root));
+    let found = output_of_success(find.args(["-type", "f", "-printf", "%P\\n"]).current_dir(&root));
     let in_folders = |file: &&str| file.contains('/');
     let found: BTreeSet<_> = found.lines().filter(in_folders).collect();
     assert_eq!(found, listed.filter(in_folders).collect());
 
     let (other, code) = (folder.join("other"), code());
-    output_of(Command::new("cp").arg("-r").arg(&root).arg(&other));
+    output_of_success(Command::new("cp").arg("-r").arg(&root).arg(&other));
     let replace = |file: &str, from: &str, to: &str| {
         let file = other.join(file);
         let text = fs::read_to_string(&file).unwrap();
@@ -267,12 +268,12 @@ fn the_package_next_to_another_version() {
     let same = ["a", "b"].map(|name| format!("{name}::Blake2b::digest(b\"abc\").as_bytes()"));
     let lines = format!("{PRINT_ABC} assert_eq!({});", same.join(", "));
     let program = Program::new("two_versions", &lines, &[&root, &other]);
-    for profile in some_builds(&["dev", "release", "thin", "fat"]) {
+    for profile in builds_to_test(&["dev", "release", "thin", "fat"]) {
         let built = program.build(profile, "");
-        assert_eq!(output_of(&mut Command::new(&built)), ABC);
+        assert_eq!(output_of_success(&mut Command::new(&built)), ABC);
         for build in BUILDS {
             for (version, code) in [(VERSION, &code[..]), ("99.8.7", "789")] {
-                assert_eq!(functions_held(&built, version, code, build), ["blake2b"], "{profile}");
+                assert_eq!(library_functions_in_program(&built, version, code, build), ["blake2b"], "{profile}");
             }
         }
     }
@@ -280,7 +281,7 @@ fn the_package_next_to_another_version() {
 
 // Both builds of the library for C in the same program.
 #[test]
-fn next_to_the_library_for_c() {
+fn crate_links_next_to_the_c_library() {
     let lines = format!(
         "{PRINT_ABC} extern \"C\" {{ fn vulfsjor_library_version() -> u32; }}
         assert!(unsafe {{ vulfsjor_library_version() }} > 0);"
@@ -289,7 +290,7 @@ fn next_to_the_library_for_c() {
     let given = env::var_os("VULFSJOR_INSTALLED").filter(|folder| !folder.is_empty());
     let installed = given.as_ref().map_or(program.folder.join("installed"), PathBuf::from);
     if given.is_none() {
-        output_of(Command::new(Path::new(TOP).join("c/install.sh")).arg(&installed));
+        output_of_success(Command::new(Path::new(TOP).join("c/install.sh")).arg(&installed));
     }
     let script = format!(
         "fn main() {{ println!(\"cargo:rustc-link-search=native={}/lib\");
@@ -297,16 +298,16 @@ fn next_to_the_library_for_c() {
         installed.display()
     );
     fs::write(program.folder.join("build.rs"), script).unwrap();
-    for profile in some_builds(&["dev", "release"]) {
+    for profile in builds_to_test(&["dev", "release"]) {
         let built = program.build(profile, "");
-        assert_eq!(output_of(&mut Command::new(built)), ABC);
+        assert_eq!(output_of_success(&mut Command::new(built)), ABC);
     }
 }
 
 // A shared library of Rust contains the crate, and a program calls it through that.
 #[test]
 #[ignore = "another build, for the full test"]
-fn through_a_shared_library_of_rust() {
+fn crate_works_in_a_rust_shared_library() {
     let manifest = "[lib]\ncrate-type = [\"dylib\"]\n[dependencies]\nvulfsjor = { path = \"TOP\" }\n";
     package("middle", &manifest.replace("TOP", TOP), "lib.rs", "pub use vulfsjor;\n");
     let lines = r#"let digest = middle::vulfsjor::Blake2b::new().update(b"abc").finalize();
@@ -316,23 +317,23 @@ fn through_a_shared_library_of_rust() {
     let text = fs::read_to_string(&file).unwrap() + "middle = { path = \"../middle\" }\n";
     fs::write(&file, text).unwrap();
     let built = outer.build("release", "-Cprefer-dynamic");
-    let of_rust = output_of(Command::new("rustc").args(["--print", "target-libdir"]));
-    let folders = format!("{}:{}", target().join("release").display(), of_rust.trim());
-    assert_eq!(output_of(Command::new(built).env("LD_LIBRARY_PATH", folders)), ABC);
+    let of_rust = output_of_success(Command::new("rustc").args(["--print", "target-libdir"]));
+    let folders = format!("{}:{}", target_folder().join("release").display(), of_rust.trim());
+    assert_eq!(output_of_success(Command::new(built).env("LD_LIBRARY_PATH", folders)), ABC);
 }
 
 // The lines of b2sum, and an error for a file that is absent.
 #[test]
-fn the_example_sum() {
+fn example_sum_prints_b2sum_lines() {
     let folder = folder("sum");
     let long: Vec<u8> = (0..100_000u64).map(|i| ((i * i) >> 7) as u8).collect();
     fs::write(folder.join("long"), long).unwrap();
     fs::write(folder.join("empty"), "").unwrap();
-    output_of(&mut cargo(&["build", "--example", "sum"], TOP.as_ref()));
+    output_of_success(&mut cargo(&["build", "--example", "sum"], TOP.as_ref()));
     let sums = |program: &Path| {
         Command::new(program).args(["long", "absent", "empty"]).current_dir(&folder).output().unwrap()
     };
-    let (sum, wanted) = (sums(&target().join("debug/examples/sum")), sums("b2sum".as_ref()));
+    let (sum, wanted) = (sums(&target_folder().join("debug/examples/sum")), sums("b2sum".as_ref()));
     assert_eq!((sum.status.code(), sum.stdout), (Some(1), wanted.stdout));
     assert!(sum.stderr.starts_with(b"absent: "));
 }
@@ -341,8 +342,8 @@ fn the_example_sum() {
 #[test]
 #[ignore = "needs valgrind"]
 fn a_comparison_takes_equal_time() {
-    output_of(&mut cargo(&["build", "--release", "--example", "equal_time"], TOP.as_ref()));
-    let example = target().join("release/examples/equal_time");
+    output_of_success(&mut cargo(&["build", "--release", "--example", "equal_time"], TOP.as_ref()));
+    let example = target_folder().join("release/examples/equal_time");
     for call in ["digest", "verify"] {
         let counts = ["00", "31", "63"].map(|place| {
             let mut valgrind = Command::new("valgrind");

@@ -9,7 +9,7 @@ use std::process::Command;
 use vulfsjor::*;
 
 #[test]
-fn leaf_counts() {
+fn leaf_counts_are_rounded_up() {
     for leaf in [1, 2, 64, 1000, u32::MAX] {
         let length = u64::from(leaf);
         let count = |message| TreeParams::new(leaf).leaf_count(message);
@@ -39,7 +39,7 @@ fn parameters_are_refused_for_a_file() {
 
 // Of ranges of leaves, of a hasher at a leaf boundary, and of one within a leaf.
 #[test]
-fn errors_of_leaves() {
+fn wrong_leaves_are_refused() {
     let (tree, most) = (TreeParams::new, (1u64 << 58) - 1);
     let last = most / 100 - 2;
     let hasher = |length: usize| {
@@ -80,10 +80,10 @@ fn errors_of_leaves() {
 // Where the system starts no thread, since their stacks are too large for it, the caller's thread
 // does all. It is this test that runs again, in another process.
 #[test]
-fn no_thread_can_be_started() {
+fn tree_is_hashed_without_new_threads() {
     if env::var_os("RUST_MIN_STACK").is_none() {
         let status = Command::new(env::current_exe().unwrap())
-            .args(["--exact", "no_thread_can_be_started", "--test-threads=1"])
+            .args(["--exact", "tree_is_hashed_without_new_threads", "--test-threads=1"])
             .env("RUST_MIN_STACK", (1u64 << 46).to_string())
             .status();
         assert!(status.unwrap().success());
@@ -120,7 +120,7 @@ const ROOT_OF_MORE: &str = "d791033fc05293273107205607be5920509f9d598bb91164f8ee
                             79f41ee27558c85411ff75ef48fd9953df442912328edb7850d3d7c3716ba944";
 
 // Zeros, which are one page of the system's where nobody writes them, with the marks below this length.
-fn marked(length: usize) -> Vec<u8> {
+fn marked_zeros(length: usize) -> Vec<u8> {
     let mut bytes = vec![0; length];
     for (place, mark) in MARKS.into_iter().filter(|(place, _)| *place < length) {
         bytes[place] = mark;
@@ -134,7 +134,7 @@ fn params() -> TreeParams<'static> {
 
 // A length whose low 32 bits would be accepted is refused, and named. The conformance cases have such sizes.
 #[test]
-fn lengths_that_would_be_right_without_their_high_bits() {
+fn lengths_are_not_cut_to_32_bits() {
     let long = vec![0; (1 << 32) + 8];
     let (new, text) = (Params::new, &long[..]);
     let of = |error: InvalidArgument| {
@@ -163,7 +163,7 @@ fn lengths_that_would_be_right_without_their_high_bits() {
 }
 
 #[test]
-fn rooms_that_would_be_right_without_their_high_bits() {
+fn room_lengths_are_not_cut_to_32_bits() {
     let mut room = vec![0; (1 << 32) + 64];
     let (one, two) = (TreeParams::new(1), TreeParams::new(2));
     let mut hasher = one.hasher().unwrap();
@@ -184,7 +184,7 @@ fn rooms_that_would_be_right_without_their_high_bits() {
 }
 
 #[test]
-fn bytes_that_would_be_equal_without_their_high_bits() {
+fn comparison_is_not_cut_to_32_bits() {
     let mut long = vec![0; (1 << 32) + 64];
     let digest = Blake2b::digest(b"x");
     long[..64].copy_from_slice(digest.as_bytes());
@@ -200,12 +200,12 @@ fn bytes_that_would_be_equal_without_their_high_bits() {
     assert_eq!([mac.verify(&long[..32]), mac.verify(&long[..(1 << 32) + 32])], [Ok(()), Err(MacError)]);
 }
 
-macro_rules! long_messages {
+macro_rules! long_message_tests {
     ($test:ident, $hasher:ident, $mac:ident, $hash:ident, $max:literal, $digest:ident, $tag:ident) => {
         #[test]
         #[ignore = "more than 4 GiB, several times"]
         fn $test() {
-            let message = marked(LENGTH);
+            let message = marked_zeros(LENGTH);
             let mut hasher = $hasher::new();
             assert_eq!(hasher.write(&message).unwrap(), LENGTH);
             assert_eq!(hasher.count(), LENGTH as u64);
@@ -226,13 +226,13 @@ macro_rules! long_messages {
         }
     };
 }
-long_messages!(long_messages_of_blake2b, Blake2b, Blake2bMac, blake2b_hash, 64, BLAKE2B, BLAKE2B_KEY);
-long_messages!(long_messages_of_blake2s, Blake2s, Blake2sMac, blake2s_hash, 32, BLAKE2S, BLAKE2S_KEY);
+long_message_tests!(long_messages_of_blake2b, Blake2b, Blake2bMac, blake2b_hash, 64, BLAKE2B, BLAKE2B_KEY);
+long_message_tests!(long_messages_of_blake2s, Blake2s, Blake2sMac, blake2s_hash, 32, BLAKE2S, BLAKE2S_KEY);
 
 #[test]
 #[ignore = "more than 4 GiB, several times"]
-fn long_trees() {
-    let (message, params) = (marked(LENGTH), params());
+fn trees_past_4_gib_have_their_roots() {
+    let (message, params) = (marked_zeros(LENGTH), params());
     let absorbed = |absorb: &dyn Fn(&mut TreeHasher)| {
         let mut hasher = params.hasher().unwrap();
         absorb(&mut hasher);
@@ -261,7 +261,7 @@ fn long_trees() {
 
 #[test]
 #[ignore = "4 GiB by all threads, and by one"]
-fn long_files() {
+fn files_past_4_gib_have_their_roots() {
     let path = format!("{}/huge-{}", env!("CARGO_TARGET_TMPDIR"), std::process::id());
     let file = File::options().read(true).write(true).create_new(true).open(&path).unwrap();
     file.set_len(LENGTH as u64).unwrap();
@@ -284,8 +284,8 @@ fn long_files() {
 
 #[test]
 #[ignore = "8 GiB by one thread"]
-fn more_than_2_to_the_26_digests() {
-    let (digests, params) = (marked((1 << 32) + 64), TreeParams::new(1).persona(b"files"));
+fn root_over_more_than_2_to_the_26_digests() {
+    let (digests, params) = (marked_zeros((1 << 32) + 64), TreeParams::new(1).persona(b"files"));
     assert_eq!(params.root_of_leaves(&digests).unwrap().to_string(), ROOT_OF_DIGESTS);
     let mut hasher = params.hasher().unwrap();
     assert_eq!(hasher.update_leaves(&digests, b"x").unwrap().count(), (1 << 26) + 2);

@@ -10,7 +10,7 @@ use vulfsjor::{Params, Tree};
 /// What a call returns, or None if there is no such call.
 pub type Outcome<E> = Option<Result<String, E>>;
 
-pub fn done<E>() -> Outcome<E> {
+pub fn no_value<E>() -> Outcome<E> {
     Some(Ok(String::new()))
 }
 
@@ -127,14 +127,14 @@ pub type Made<E> = Option<Result<Box<dyn Hash<E>>, E>>;
 pub type Hashes<E> = HashMap<String, Box<dyn Hash<E>>>;
 
 /// The outcome of a call of one of these hashes.
-fn call_of_hash<E>(hashes: &mut Hashes<E>, call: &[&str]) -> Outcome<E> {
+fn outcome_of_hash_call<E>(hashes: &mut Hashes<E>, call: &[&str]) -> Outcome<E> {
     let hash = hashes.get_mut(call[1])?;
     match call[0] {
         "update" => hash.update(&bytes(call[2])?),
         "copy" => {
             let copy = hash.copy();
             hashes.insert(call[2].into(), copy);
-            done()
+            no_value()
         }
         "reset" => hash.reset(),
         "last" => hash.last(call[2] == "1"),
@@ -154,7 +154,11 @@ fn call_of_hash<E>(hashes: &mut Hashes<E>, call: &[&str]) -> Outcome<E> {
 }
 
 /// The outcome of the call in which several hashes absorb.
-fn call_of_hashes<D: Driver>(driver: &D, hashes: &mut Hashes<D::Error>, call: &[&str]) -> Outcome<D::Error> {
+fn outcome_of_update_many_call<D: Driver>(
+    driver: &D,
+    hashes: &mut Hashes<D::Error>,
+    call: &[&str],
+) -> Outcome<D::Error> {
     let messages = call[2..].iter().map(|word| bytes(word)).collect::<Option<Vec<_>>>()?;
     let names: Vec<_> = call[1].chars().map(String::from).collect();
     if !names.iter().all(|name| hashes.contains_key(name)) {
@@ -220,11 +224,11 @@ pub fn run<D: Driver>(driver: &D, names: &[&str], all: (usize, &[(&str, usize)])
                 }
                 "wipe" => {
                     hashes.remove(call[1]);
-                    done()
+                    no_value()
                 }
                 "hash" | "many" | "equal" | "derive" | "leaves" | "top" => driver.call(&call, &given),
-                "updates" => call_of_hashes(driver, &mut hashes, &call),
-                _ => call_of_hash(&mut hashes, &call),
+                "updates" => outcome_of_update_many_call(driver, &mut hashes, &call),
+                _ => outcome_of_hash_call(&mut hashes, &call),
             };
             let is_right = match &got {
                 Some(Ok(text)) => text == wanted,

@@ -12,12 +12,12 @@ fn print(bytes: impl AsRef<[u8]>) {
 }
 
 // A function over any hash function, by a path through the renamed crate.
-fn twice<D: digest::Digest>(message: &[u8]) -> digest::Output<D> {
+fn digest_of_message_twice<D: digest::Digest>(message: &[u8]) -> digest::Output<D> {
     D::digest(D::digest(message))
 }
 
 // A size that is known at run time only.
-fn sized(size: usize, message: &[u8]) -> Result<Vec<u8>, Box<dyn std::error::Error>> {
+fn digest_of_size(size: usize, message: &[u8]) -> Result<Vec<u8>, Box<dyn std::error::Error>> {
     use blake2::digest::{Update, VariableOutput};
     let mut hasher = blake2::Blake2bVar::new(size)?;
     hasher.update(message);
@@ -27,7 +27,7 @@ fn sized(size: usize, message: &[u8]) -> Result<Vec<u8>, Box<dyn std::error::Err
 }
 
 // The recipe for files of that crate.
-fn file(path: &str) -> std::io::Result<[u8; 32]> {
+fn digest_of_file(path: &str) -> std::io::Result<[u8; 32]> {
     let mut hasher = Blake2s256::new();
     std::io::copy(&mut std::fs::File::open(path)?, &mut hasher)?;
     Ok(hasher.finalize().into())
@@ -40,14 +40,14 @@ fn main() -> Result<(), Box<dyn std::error::Error>> {
     print(hasher.finalize());
     print(Blake2s256::digest("hello world"));
     print(Blake2b::<U10>::new().chain_update("my input").finalize());
-    print(twice::<Blake2s256>(b"abc"));
-    print(sized(10, b"my input")?);
+    print(digest_of_message_twice::<Blake2s256>(b"abc"));
+    print(digest_of_size(10, b"my input")?);
 
     let mac = <Blake2bMac512 as Mac>::new_from_slice(b"key")?.chain_update(b"my input");
     print(mac.clone().finalize().into_bytes());
     mac.verify_slice(b"wrong").unwrap_err();
     let mac = Blake2bMac::<U10>::new_with_salt_and_personal(b"key", b"salt", b"persona")?;
     print(mac.chain_update(b"my input").finalize_fixed());
-    print(file("Cargo.toml")?);
+    print(digest_of_file("Cargo.toml")?);
     Ok(())
 }

@@ -7,7 +7,7 @@ use vulfsjor::Digest;
 struct Field(#[serde(with = "blake2::serde")] Digest);
 
 #[test]
-fn text_has_digits() {
+fn text_formats_have_hex_digits() {
     let zeros = format!("{:?}", "00".repeat(64));
     for (bytes, text) in [(&[1, 0xaf][..], "\"01af\""), (&[0; 64], &zeros)] {
         let field = Field(Digest::try_from(bytes).unwrap());
@@ -27,7 +27,7 @@ fn text_has_digits() {
 }
 
 #[test]
-fn binary_has_bytes() {
+fn binary_formats_have_bytes() {
     let written = bincode::serialize(&Field(Digest::from([7, 8]))).unwrap();
     assert_eq!(written, [2, 0, 0, 0, 0, 0, 0, 0, 7, 8]);
     let Field(read) = bincode::deserialize(&written).unwrap();

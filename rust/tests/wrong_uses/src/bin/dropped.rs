@@ -5,7 +5,7 @@ use std::io::{Read, Write};
 use vulfsjor::*;
 
 // What is right in `blake2b_simd`, whose setters change the parameters.
-fn ported<'a>(k: &'a [u8], m: &[u8]) -> Result<Digest, InvalidArgument> {
+fn use_of_ported_setters<'a>(k: &'a [u8], m: &[u8]) -> Result<Digest, InvalidArgument> {
     let mut p = Params::new();
     p.output_size(16); // refused
     p.key(k); // refused
@@ -17,7 +17,7 @@ fn ported<'a>(k: &'a [u8], m: &[u8]) -> Result<Digest, InvalidArgument> {
     Ok(if p.blake2b_hash(m)? == first { first } else { p.blake2s_hash(m)? })
 }
 
-fn parameters(params: &Params<'_>, tree: &mut TreeParams<'_>) -> Result<(), InvalidArgument> {
+fn dropped_parameters(params: &Params<'_>, tree: &mut TreeParams<'_>) -> Result<(), InvalidArgument> {
     Params::new(); // refused
     Params::default(); // refused
     params.salt(b"salt"); // refused
@@ -35,7 +35,7 @@ fn parameters(params: &Params<'_>, tree: &mut TreeParams<'_>) -> Result<(), Inva
     Ok(())
 }
 
-fn hashers(params: &Params<'_>, tag: &[u8]) -> Result<(), InvalidArgument> {
+fn dropped_hasher_results(params: &Params<'_>, tag: &[u8]) -> Result<(), InvalidArgument> {
     Blake2b::new(); // refused
     Blake2b::default(); // refused
     Blake2b::digest(b"abc"); // refused
@@ -61,7 +61,7 @@ fn hashers(params: &Params<'_>, tag: &[u8]) -> Result<(), InvalidArgument> {
     Ok(())
 }
 
-fn outputs(key: &[u8], out: &mut [u8]) {
+fn dropped_output_results(key: &[u8], out: &mut [u8]) {
     Blake2xb::new(); // refused
     Blake2xb::derive_key(key, "files", out); // refused
     let mut hasher = Blake2xb::new();
@@ -73,7 +73,7 @@ fn outputs(key: &[u8], out: &mut [u8]) {
     reader.read_exact(out); // refused
 }
 
-fn trees(tree: &TreeParams<'_>, bytes: &[u8], out: &mut [u8]) -> Result<(), InvalidArgument> {
+fn dropped_tree_results(tree: &TreeParams<'_>, bytes: &[u8], out: &mut [u8]) -> Result<(), InvalidArgument> {
     tree.root(bytes)?; // refused
     tree.hasher()?; // refused
     tree.leaf_count(1); // refused
@@ -88,7 +88,7 @@ fn trees(tree: &TreeParams<'_>, bytes: &[u8], out: &mut [u8]) -> Result<(), Inva
     Ok(())
 }
 
-fn digests(digest: &Digest, error: &InvalidArgument) -> Result<(), HexError> {
+fn dropped_digest_results(digest: &Digest, error: &InvalidArgument) -> Result<(), HexError> {
     Digest::from_hex("0102")?; // refused
     Digest::from([1, 2]); // refused
     digest.as_bytes(); // refused
@@ -102,7 +102,8 @@ fn digests(digest: &Digest, error: &InvalidArgument) -> Result<(), HexError> {
 
 fn main() {
     let (params, mut tree, mut out) = (Params::new().key(b"key"), TreeParams::new(64), [0; 64]);
-    let _ = (ported(b"key", b"abc"), parameters(&params, &mut tree), hashers(&params, b"tag"));
-    let _ = (outputs(b"key", &mut out), trees(&tree, b"abc", &mut out));
-    let _ = digests(&Blake2b::digest(b"abc"), &params.output_size(0).blake2b().unwrap_err());
+    let _ = (use_of_ported_setters(b"key", b"abc"), dropped_parameters(&params, &mut tree));
+    let _ = dropped_hasher_results(&params, b"tag");
+    let _ = (dropped_output_results(b"key", &mut out), dropped_tree_results(&tree, b"abc", &mut out));
+    let _ = dropped_digest_results(&Blake2b::digest(b"abc"), &params.output_size(0).blake2b().unwrap_err());
 }
