@@ -535,7 +535,7 @@
 	strb	w8, [x26, #592]
 11:
 	mov	x2, x20
-	bl	b2_commands..task..Task..alone_1_a64
+	bl	b2_commands..task..Task..require_no_more_words_1_a64
 	ldrb	w9, [x19, #55]
 	ldurh	w10, [x19, #53]
 	ldrb	w11, [x19, #79]
@@ -9962,7 +9962,7 @@
 	ret
 	vj_end	core..lang..str_eq_1_a64
 
-	vj_function	b2_commands..task..Task..alone_1_a64
+	vj_function	b2_commands..task..Task..require_no_more_words_1_a64
 	sub	sp, sp, #112
 	stp	x28, x27, [sp, #32]
 	ldp	x5, x10, [x1, #24]
@@ -10316,7 +10316,7 @@
 	str	xzr, [sp, #8]
 	mov	w23, wzr
 	b	17b
-	vj_end	b2_commands..task..Task..alone_1_a64
+	vj_end	b2_commands..task..Task..require_no_more_words_1_a64
 
 	vj_constants	16
 	.p2align	4, 0x0

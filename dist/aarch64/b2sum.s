@@ -15561,7 +15561,7 @@
 	mov	x2, x25
 	stp	x9, x8, [sp, #8]
 	str	x26, [sp, #24]
-	bl	b2sum_commands..key..key_in_1_a64
+	bl	b2sum_commands..key..key_of_file_bytes_1_a64
 	ldrb	w8, [sp, #32]
 	cbz	w8, 9f
 	ldrb	w8, [sp, #33]
@@ -15967,7 +15967,7 @@
 	b	5b
 	vj_end	b2sum..disk..OpenedOpenFile..read..ec2583f154d97a77_1_a64
 
-	vj_function	b2sum_commands..key..key_in_1_a64
+	vj_function	b2sum_commands..key..key_of_file_bytes_1_a64
 	sub	sp, sp, #112
 	movi	v0.2d, #0000000000000000
 	stp	x20, x19, [sp, #96]
@@ -16085,7 +16085,7 @@
 	mov	x25, xzr
 	cbnz	x22, 14b
 	b	15b
-	vj_end	b2sum_commands..key..key_in_1_a64
+	vj_end	b2sum_commands..key..key_of_file_bytes_1_a64
 
 	vj_function	b2sum_commands..messages..warn_of_name..068f3e307c5390f2_1_a64
 	sub	sp, sp, #112
@@ -34838,7 +34838,7 @@
 	strh	w26, [sp, #4]
 	mov	w20, #1
 	strb	w8, [sp, #6]
-	bl	b2sum_commands..line_needs..push_needs_1_a64
+	bl	b2sum_commands..line_needs..push_needs_options_1_a64
 	and	w8, w0, #0xff
 	tbnz	w8, #0, 31f
 	lsr	x8, x26, #24
@@ -34850,7 +34850,7 @@
 	lsr	w9, w8, #16
 	strh	w8, [sp]
 	strb	w9, [sp, #2]
-	bl	b2sum_commands..line_needs..push_needs_1_a64
+	bl	b2sum_commands..line_needs..push_needs_options_1_a64
 	and	w8, w0, #0xff
 	tbz	w8, #0, 2f
 1:
@@ -35191,7 +35191,7 @@
 	.byte	115
 	.byte	111
 	.byte	110
-	vj_function	b2sum_commands..line_needs..push_needs_1_a64
+	vj_function	b2sum_commands..line_needs..push_needs_options_1_a64
 	stp	x29, x30, [sp, #-96]!
 	stp	x24, x23, [sp, #48]
 	ldrb	w8, [x3]
@@ -35451,7 +35451,7 @@
 29:
 	mov	w0, #1
 	b	22b
-	vj_end	b2sum_commands..line_needs..push_needs_1_a64
+	vj_end	b2sum_commands..line_needs..push_needs_options_1_a64
 
 	vj_function	b2sum_commands..check..end_manifest..068f3e307c5390f2_1_a64
 	sub	sp, sp, #256

@@ -1344,7 +1344,7 @@
 	leaq	3456(%rsp), %rsi
 11:
 	movq	%r15, %rdx
-	callq	b2_commands..task..Task..alone_1_x86
+	callq	b2_commands..task..Task..require_no_more_words_1_x86
 	movzbl	4960(%rsp), %eax
 	movq	4968(%rsp), %xmm0
 	movq	4976(%rsp), %rsi
@@ -10683,7 +10683,7 @@
 	retq
 	vj_end	core..lang..str_eq_1_x86
 
-	vj_function	b2_commands..task..Task..alone_1_x86
+	vj_function	b2_commands..task..Task..require_no_more_words_1_x86
 	pushq	%rbp
 	pushq	%r15
 	pushq	%r14
@@ -11001,9 +11001,9 @@
 	popq	%r15
 	popq	%rbp
 	retq
-	vj_end	b2_commands..task..Task..alone_1_x86
+	vj_end	b2_commands..task..Task..require_no_more_words_1_x86
 
-	vj_data	b2_commands..task..Task..alone_1_x86
+	vj_data	b2_commands..task..Task..require_no_more_words_1_x86
 	.p2align	2, 0x0
 .L1_x86_JTI9_0:
 	.long	9b-.L1_x86_JTI9_0

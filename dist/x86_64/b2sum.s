@@ -16669,7 +16669,7 @@
 	leaq	264(%rsp), %rcx
 	movq	432(%rsp), %r14
 	movq	%r14, %rdx
-	callq	b2sum_commands..key..key_in_1_x86
+	callq	b2sum_commands..key..key_of_file_bytes_1_x86
 	cmpb	$0, 96(%rsp)
 	je	12f
 	movzbl	97(%rsp), %eax
@@ -17131,7 +17131,7 @@
 	jmp	5b
 	vj_end	b2sum..disk..OpenedOpenFile..read..ec2583f154d97a77_1_x86
 
-	vj_function	b2sum_commands..key..key_in_1_x86
+	vj_function	b2sum_commands..key..key_of_file_bytes_1_x86
 	pushq	%rbp
 	pushq	%r15
 	pushq	%r14
@@ -17245,7 +17245,7 @@
 	popq	%r15
 	popq	%rbp
 	retq
-	vj_end	b2sum_commands..key..key_in_1_x86
+	vj_end	b2sum_commands..key..key_of_file_bytes_1_x86
 
 	vj_function	b2sum_commands..messages..warn_of_name..068f3e307c5390f2_1_x86
 	pushq	%r15
@@ -39045,7 +39045,7 @@
 	leaq	28(%rsp), %rcx
 	movl	$1, %edx
 	movq	%rbx, %rdi
-	callq	b2sum_commands..line_needs..push_needs_1_x86
+	callq	b2sum_commands..line_needs..push_needs_options_1_x86
 	movb	$1, %bpl
 	testb	%al, %al
 	jne	29f
@@ -39057,7 +39057,7 @@
 	leaq	24(%rsp), %rcx
 	movl	$4, %edx
 	movq	%rbx, %rdi
-	callq	b2sum_commands..line_needs..push_needs_1_x86
+	callq	b2sum_commands..line_needs..push_needs_options_1_x86
 	testb	%al, %al
 	jne	29f
 	testb	%r12b, %r12b
@@ -39416,7 +39416,7 @@
 	.long	8b-.L1_x86_JTI92_0
 	.long	3b-.L1_x86_JTI92_0
 
-	vj_function	b2sum_commands..line_needs..push_needs_1_x86
+	vj_function	b2sum_commands..line_needs..push_needs_options_1_x86
 	pushq	%rbp
 	pushq	%r15
 	pushq	%r14
@@ -39721,7 +39721,7 @@
 	movq	8(%rbx), %r12
 	movq	16(%rbx), %r13
 	jmp	16b
-	vj_end	b2sum_commands..line_needs..push_needs_1_x86
+	vj_end	b2sum_commands..line_needs..push_needs_options_1_x86
 
 	vj_function	b2sum_commands..check..end_manifest..068f3e307c5390f2_1_x86
 	pushq	%rbp
